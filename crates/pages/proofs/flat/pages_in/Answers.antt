@@ -1,0 +1,13 @@
+use borrow.Author.Needs.{needs}
+use mathlib.Core.Path.{_≡_, sym, _∙_}
+use native.Mathlib.Omega.{arith}
+use lib.ListN.{length}
+use Rattle.pages.proofs.FlatLaws.{flat-length, flat-shaped}
+use Rattle.pages.proofs.flat.pages_in.Needs as need
+
+pub returns : need.returns
+returns c = record {
+  value = c .min .ensures ∙ sym (flat-length (c .args .memory .now));
+  shape = flat-shaped (c .args .memory .now);
+  size = c .min .ensures;
+}

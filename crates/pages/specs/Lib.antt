@@ -1,0 +1,4 @@
+pub mod Fault
+pub mod Store
+pub mod Pieces
+pub mod Flat
