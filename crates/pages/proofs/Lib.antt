@@ -1,2 +1,9 @@
 pub mod Pieces
 pub mod FlatLaws
+pub mod RecordBytes
+pub mod RecordLaws
+pub mod OneEach
+pub mod SlotLaws
+pub mod Compacting
+pub mod LogLaws
+pub mod LastOfEach
