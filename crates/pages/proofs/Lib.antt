@@ -6,4 +6,5 @@ pub mod OneEach
 pub mod SlotLaws
 pub mod Compacting
 pub mod LogLaws
+pub mod BookLaws
 pub mod LastOfEach

@@ -1,11 +1,13 @@
 // Numbered pages of 64 bytes, and the stores that keep them.
 
+mod book;
 mod fault;
 mod flat;
 mod log;
 mod slots;
 mod store;
 
+pub use book::export;
 pub use fault::StoreFault;
 pub use flat::FlatPages;
 pub use flat::FlatStore;
