@@ -3,11 +3,10 @@ use mathlib.Core.Path.{_≡_, refl, sym, _∙_, ap, subst}
 use mathlib.Core.Bool.{Bool, true, false, cond}
 use mathlib.Core.List.{List, [], _∷_, _++_}
 use mathlib.Core.Logic.{_⊎_, ⊎-elim}
-use Prim.Native.Nat.{ℕ, zero, suc, _+_, _*_, _<_, _≤_}
+use Prim.Native.Nat.{ℕ, suc, _+_, _*_, _<_, _≤_}
 use native.Mathlib.Omega.{arith}
 use lib.Dec.{eqb}
 use lib.ListN.{length, getD, set, drop}
-use borrow.Rule.Slice.PartMut.{putMid}
 use Rattle.std.specs.declared.option.Option.{Option}
 use Rattle.std.specs.declared.option.Option.the-variants.{Some, None}
 use Rattle.std.proofs.shelf.Lists.{append-assoc, append-nil, drop-more, drop-all, getD-set-same, getD-set-other}
@@ -16,7 +15,7 @@ use Rattle.std.proofs.shelf.Tests.{both-ways, eq-eqb, eqb-true, ne-eqb, cases-e
 use Rattle.pages.specs.Pieces.{piece, overwritten}
 use Rattle.pages.specs.Records.{Record, blank, after, lastPlace, unlessLater, compacted}
 use Rattle.pages.specs.Log.{encoded, decoded, recordsIn, Exact, Known, Indexes}
-use Rattle.pages.proofs.Pieces.{length-piece, piece-ends, piece-overwritten-other, putMid-overwritten}
+use Rattle.pages.proofs.Pieces.{length-piece, piece-overwritten-other, putMid-overwritten}
 use Rattle.pages.proofs.RecordLaws.{either, some≢none, lastPlace-push}
 use Rattle.pages.proofs.SlotLaws.{length-recordsIn, getD-recordsIn, records-put, slots-put}
 
@@ -33,10 +32,6 @@ pub record Compacting (start : List ℕ) (n i kept : ℕ) (memory : List ℕ) (l
   pub exact : Exact kept memory
   pub index : (p : ℕ) → getD last p None ≡ merged i (lastPlace (drop i (recordsIn n start)) p) (lastPlace (recordsIn kept memory) p)
   pub past : drop (66 * n) memory ≡ drop (66 * n) start
-
-merged-none : (o : Option ℕ) (x : Option ℕ) → x ≡ merged 0 o None → x ≡ o
-merged-none None x e = e
-merged-none (Some k) x e = e ∙ ap Some (let z : 0 + k ≡ k = omega arith in z)
 
 pub begins : (start : List ℕ) (n : ℕ) (last : List (Option ℕ)) → Indexes last (recordsIn n start) → Compacting start n 0 0 start last
 begins start n last indexed = record {

@@ -1,9 +1,10 @@
 -- The flat store's pages by its memory: where they lie, and what a write of one leaves.
-use mathlib.Core.Path.{_≡_, refl, sym, _∙_, ap}
+use mathlib.Core.Path.{_≡_, sym, _∙_, ap}
 use mathlib.Core.List.{List, []}
 use Prim.Native.Nat.{ℕ, _+_, _*_, _<_, _≤_}
 use native.Mathlib.Omega.{arith}
 use lib.ListN.{length, getD, set, drop}
+use Rattle.std.proofs.shelf.Elements.{all-from-getD}
 use Rattle.std.proofs.shelf.Parts.{drop-putMid}
 use Rattle.pages.specs.Store.{Shaped}
 use Rattle.pages.specs.Pieces.{piece, pieces, overwritten}
@@ -22,7 +23,7 @@ flat-read memory p lt = getD-pieces 64 (flatCount (length memory)) p memory (ome
 pub flat-shaped : (memory : List ℕ) → Shaped (flatPages memory)
 flat-shaped memory = record {
   few = omega (arith, flat-length memory);
-  wide = λ p lt. ap length (flat-read memory p lt) ∙ length-piece 64 p memory (flat-fits memory p lt);
+  wide = all-from-getD (λ page. length page ≡ 64) (flatPages memory) [] (λ p lt. ap length (flat-read memory p lt) ∙ length-piece 64 p memory (flat-fits memory p lt));
 }
 
 module _ (memory : List ℕ) (p : ℕ) (bytes : List ℕ) (wide : length bytes ≡ 64) (lt : p < length (flatPages memory)) where

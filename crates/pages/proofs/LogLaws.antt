@@ -2,29 +2,30 @@
 use mathlib.Core.Path.{_≡_, refl, sym, _∙_, ap, subst}
 use mathlib.Core.Bool.{Bool, true, false, cond}
 use mathlib.Core.List.{List, [], _∷_, _++_}
-use mathlib.Core.Logic.{⊎-elim}
+use mathlib.Core.Logic.{inl, inr, ⊎-elim}
 use Prim.Native.Nat.{ℕ, _+_, _-_, _*_, _<_, _≤_}
 use native.Mathlib.Nat.{zero-add}
 use native.Mathlib.Omega.{arith}
 use lib.Dec.{eqb}
 use lib.ListN.{length, getD, set, take, drop}
-use Rattle.std.specs.Joined.{joined}
 use Rattle.std.specs.declared.option.Option.{Option}
 use Rattle.std.specs.declared.option.Option.the-variants.{Some, None}
 use Rattle.std.specs.shelf.Lists.{All}
 use Rattle.std.proofs.shelf.Counted.{length-map-counting, getD-map-counting}
-use Rattle.std.proofs.shelf.Lists.{ext-getD, length-drop, length-set, drop-drop, drop-take, getD-set-same, getD-set-other}
+use Rattle.std.proofs.shelf.Elements.{all-from-getD}
+use Rattle.std.proofs.shelf.Lists.{ext-getD, length-drop, length-set, getD-set-same, getD-set-other}
 use Rattle.std.proofs.shelf.Parts.{drop-putMid}
-use Rattle.std.proofs.shelf.Tests.{cases-eq, eq-eqb, ne-eqb}
+use Rattle.std.proofs.shelf.Tests.{cases-eq, eq-eqb, eqb-true, eqb-false, ne-eqb}
 use Rattle.pages.specs.Store.{Shaped}
 use Rattle.pages.specs.Pieces.{piece, overwritten}
-use Rattle.pages.specs.Records.{Record, blank, recordAt, bytesAt, lastPlace, content, compacted, Content}
-use Rattle.pages.specs.Log.{slotsIn, logCount, encoded, decoded, recordsIn, logPages, Exact, Known, Indexes, LaidOut, appendable, pastLastSlot}
+use Rattle.pages.specs.Records.{Record, blank, recordAt, bytesAt, lastPlace, content, compacted, Content, Located}
+use Rattle.pages.specs.Log.{slotsIn, logCount, encoded, decoded, recordsIn, logPages, Exact, Known, Indexes, LaidOut, RoomMade, withRoom, pastLastSlot}
 use Rattle.pages.proofs.Pieces.{length-piece, length-overwritten, putMid-overwritten}
+use Rattle.pages.proofs.LastOfEach.{compacted-last}
 use Rattle.pages.proofs.OneEach.{compacted-few}
 use Rattle.pages.proofs.RecordBytes.{decoded-encoded, length-encoded}
-use Rattle.pages.proofs.RecordLaws.{either, lastPlace-is, lastPlace-push, content-is, content-push, content-compacted, all-compacted}
-use Rattle.pages.proofs.SlotLaws.{length-recordsIn, getD-recordsIn, records-put, slots-put, exact-laid, laid-exact, known-all, all-known}
+use Rattle.pages.proofs.RecordLaws.{either, lastPlace-is, lastPlace-located, lastPlace-push, content-is, content-push, content-compacted, all-compacted}
+use Rattle.pages.proofs.SlotLaws.{length-recordsIn, getD-recordsIn, records-put, slots-put, exact-laid, known-all, all-known}
 
 pub log-length : (filled : ℕ) (memory : List ℕ) → length (logPages filled memory) ≡ logCount (length memory)
 log-length filled memory = length-map-counting (content (recordsIn filled memory)) 0 (logCount (length memory))
@@ -52,18 +53,15 @@ module _ (filled : ℕ) (memory : List ℕ) (few : filled ≤ slotsIn (length me
   pub log-shaped : Shaped (logPages filled memory)
   log-shaped = record {
     few = omega (arith, log-length filled memory);
-    wide = λ p lt. ap length (log-at filled memory p (omega (arith, log-length filled memory))) ∙ content-wide p;
+    wide = all-from-getD (λ page. length page ≡ 64) (logPages filled memory) [] (λ p lt. ap length (log-at filled memory p (omega (arith, log-length filled memory))) ∙ content-wide p);
   }
 
--- exact slots are the records in the layout, and the other way round
-pub exact-laid-out : (filled : ℕ) (memory : List ℕ) → Exact filled memory → LaidOut filled memory (recordsIn filled memory)
-exact-laid-out filled memory exact = (length-recordsIn filled memory, exact-laid filled memory exact)
+-- exact slots are the records in the layout
+pub log-laid : (filled : ℕ) (memory : List ℕ) → Exact filled memory → LaidOut memory (recordsIn filled memory)
+log-laid filled memory exact = ap (λ n. take (66 * n) memory) (length-recordsIn filled memory) ∙ exact-laid filled memory exact
 
-pub laid-out-exact : (filled : ℕ) (memory : List ℕ) → filled ≤ slotsIn (length memory) → LaidOut filled memory (recordsIn filled memory) → Exact filled memory
-laid-out-exact filled memory few laid = laid-exact filled memory (omega (arith, few)) (laid .1)
-
-content-appendable : (slots : ℕ) (rs : List Record) (p : ℕ) → content (appendable slots rs) p ≡ content rs p
-content-appendable slots rs p = pick (eqb (length rs) slots)
+content-with-room : (slots : ℕ) (rs : List Record) (p : ℕ) → content (withRoom slots rs) p ≡ content rs p
+content-with-room slots rs p = pick (eqb (length rs) slots)
   where
     pick : (b : Bool) → content (cond b (compacted rs) rs) p ≡ content rs p
     pick true = content-compacted rs p
@@ -71,7 +69,7 @@ content-appendable slots rs p = pick (eqb (length rs) slots)
 
 -- one more record sets its page, and no other
 pub log-write : (slots filled filled′ : ℕ) (memory memory′ : List ℕ) (r : Record) → length memory′ ≡ length memory → r .page < logCount (length memory)
-    → recordsIn filled′ memory′ ≡ appendable slots (recordsIn filled memory) ++ r ∷ []
+    → recordsIn filled′ memory′ ≡ withRoom slots (recordsIn filled memory) ++ r ∷ []
     → logPages filled′ memory′ ≡ set (logPages filled memory) (r .page) (r .bytes)
 log-write slots filled filled′ memory memory′ r same inside appended =
     ext-getD [] (logPages filled′ memory′) (set (logPages filled memory) (r .page) (r .bytes))
@@ -80,8 +78,8 @@ log-write slots filled filled′ memory memory′ r same inside appended =
     let l : q < logCount (length memory) = omega (arith, size) in
     let l′ : q < logCount (length memory′) = omega (arith, log-length filled′ memory′) in
     log-at filled′ memory′ q l′ ∙ ap (λ rs. content rs q) appended
-    ∙ content-push (appendable slots (recordsIn filled memory)) r q
-    ∙ ap (cond (eqb (r .page) q) (r .bytes)) (content-appendable slots (recordsIn filled memory) q)
+    ∙ content-push (withRoom slots (recordsIn filled memory)) r q
+    ∙ ap (cond (eqb (r .page) q) (r .bytes)) (content-with-room slots (recordsIn filled memory) q)
     ∙ ⊎-elim
     (λ e.
     ap (λ b. cond b (r .bytes) (content (recordsIn filled memory) q)) (eq-eqb (r .page) q (sym e))
@@ -145,15 +143,14 @@ module _ (memory : List ℕ) (filled : ℕ) (last : List (Option ℕ)) (r : Reco
 
   -- what the store keeps, over the values that a write leaves
   pub put-kept : (memory′ : List ℕ) (p : ℕ) → memory′ ≡ overwritten memory (66 * filled) (encoded r) → p ≡ r .page → r .page < logCount (length memory)
-      → length last ≡ 4096 → LaidOut filled memory (recordsIn filled memory) → Known (logCount (length memory)) filled memory → Indexes last (recordsIn filled memory)
-      → (filled + 1 ≤ slotsIn (length memory′)) × (length (set last p (Some filled)) ≡ 4096) × LaidOut (filled + 1) memory′ (recordsIn (filled + 1) memory′)
+      → length last ≡ 4096 → Exact filled memory → Known (logCount (length memory)) filled memory → Indexes last (recordsIn filled memory)
+      → (filled + 1 ≤ slotsIn (length memory′)) × (length (set last p (Some filled)) ≡ 4096) × Exact (filled + 1) memory′
       × Known (logCount (length memory′)) (filled + 1) memory′ × Indexes (set last p (Some filled)) (recordsIn (filled + 1) memory′)
-  put-kept memory′ p put named inside wide-index laid known indexed =
-      let size : length memory′ ≡ length memory = ap length put ∙ put-length in
-      let exact = put-exact (laid-out-exact filled memory (omega (arith, room)) laid) in (
+  put-kept memory′ p put named inside wide-index exact known indexed =
+      let size : length memory′ ≡ length memory = ap length put ∙ put-length in (
         omega (arith, room),
         length-set last p (Some filled) ∙ wide-index,
-        exact-laid-out (filled + 1) memory′ (subst (Exact (filled + 1)) (sym put) exact),
+        subst (Exact (filled + 1)) (sym put) (put-exact exact),
         subst (λ n. Known (logCount n) (filled + 1) memory′) (sym size)
             (subst (Known (logCount (length memory)) (filled + 1)) (sym put) (put-known inside known)),
         subst (λ m. Indexes (set last p (Some filled)) (recordsIn (filled + 1) m)) (sym put)
@@ -162,12 +159,12 @@ module _ (memory : List ℕ) (filled : ℕ) (last : List (Option ℕ)) (r : Reco
       )
 
 -- room for a record: there is some, or the log is compacted
-pub room-left : (slots filled : ℕ) (memory : List ℕ) → filled < slots → recordsIn filled memory ≡ appendable slots (recordsIn filled memory)
+pub room-left : (slots filled : ℕ) (memory : List ℕ) → filled < slots → recordsIn filled memory ≡ withRoom slots (recordsIn filled memory)
 room-left slots filled memory lt =
     ap (λ b. cond b (compacted (recordsIn filled memory)) (recordsIn filled memory))
     (sym (ne-eqb (length (recordsIn filled memory)) slots (λ e. omega (arith, length-recordsIn filled memory))))
 
-pub room-made : (slots filled : ℕ) (memory : List ℕ) → filled ≡ slots → compacted (recordsIn filled memory) ≡ appendable slots (recordsIn filled memory)
+pub room-made : (slots filled : ℕ) (memory : List ℕ) → filled ≡ slots → compacted (recordsIn filled memory) ≡ withRoom slots (recordsIn filled memory)
 room-made slots filled memory full =
     ap (λ b. cond b (compacted (recordsIn filled memory)) (recordsIn filled memory))
     (sym (eq-eqb (length (recordsIn filled memory)) slots (length-recordsIn filled memory ∙ full)))
@@ -183,15 +180,6 @@ module _ (count filled kept : ℕ) (memory memory′ : List ℕ) (known : Known 
       all-known count kept memory′
       (subst (All (λ (r : Record). r .page < count)) (sym moved)
       (all-compacted (λ (r : Record). r .page < count) (recordsIn filled memory) (known-all count filled memory known)))
-
--- the part of a slot that a read copies
-pub slot-page : (k j : ℕ) (memory : List ℕ) → k ≡ j → take (66 * k + 2 + 64 - (66 * k + 2)) (drop (66 * k + 2) memory) ≡ drop 2 (piece 66 memory j)
-slot-page k j memory e =
-    let n : 66 * k + 2 + 64 - (66 * k + 2) ≡ 64 = omega arith in
-    ap (λ i. take i (drop (66 * k + 2) memory)) n
-    ∙ ap (take 64) (sym (drop-drop 2 (66 * k) memory))
-    ∙ sym (drop-take 2 64 (drop (66 * k) memory))
-    ∙ ap (λ i. drop 2 (piece 66 memory i)) e
 
 -- where the index leads is the page's content
 module _ (filled : ℕ) (memory : List ℕ) (last : List (Option ℕ)) (indexed : Indexes last (recordsIn filled memory)) (p : ℕ) where
@@ -212,3 +200,16 @@ log-reads filled memory p bytes lt e = (
   e ∙ sym (log-at filled memory p (omega (arith, log-length filled memory))),
   subst (Content (recordsIn filled memory) p) (sym e) (content-is (recordsIn filled memory) p),
 )
+
+-- the index, in the words of the relation
+pub index-right : (filled : ℕ) (memory : List ℕ) (last : List (Option ℕ)) → Indexes last (recordsIn filled memory)
+    → (p : ℕ) → Located (recordsIn filled memory) p (getD last p None)
+index-right filled memory last indexed p = subst (Located (recordsIn filled memory) p) (sym (indexed p)) (lastPlace-located (recordsIn filled memory) p)
+
+-- what a write appends to, in the words of the relation
+pub with-room-is : (slots : ℕ) (rs : List Record) → length rs ≤ slots → RoomMade slots rs (withRoom slots rs)
+with-room-is slots rs few = pick (eqb (length rs) slots) refl
+  where
+    pick : (b : Bool) → eqb (length rs) slots ≡ b → RoomMade slots rs (cond b (compacted rs) rs)
+    pick true e = inr (eqb-true (length rs) slots e, compacted-last rs)
+    pick false e = inl (let apart = eqb-false (length rs) slots e in let z : length rs < slots = omega (arith, apart) in z, refl)

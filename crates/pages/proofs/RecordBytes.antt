@@ -1,9 +1,9 @@
 -- A record's bytes: they stand for the record, and how a slot comes to hold them.
-use mathlib.Core.Path.{_≡_, refl, sym, _∙_, ap}
+use mathlib.Core.Path.{_≡_, sym, _∙_, ap}
 use mathlib.Core.List.{List, [], _∷_, _++_}
-use Prim.Native.Nat.{ℕ, suc, _+_, _-_, _*_, _/_, _%_, _<_, _≤_}
+use Prim.Native.Nat.{ℕ, suc, _+_, _-_, _*_, _/_, _%_, _≤_}
 use native.Mathlib.Omega.{arith}
-use lib.ListN.{length, getD, set, take, drop}
+use lib.ListN.{length, set, take, drop}
 use borrow.Rule.Slice.PartMut.{putMid}
 use Rattle.std.proofs.shelf.Lists.{append-assoc, take-more-set, drop-set-lt, drop-drop, length-set}
 use Rattle.pages.specs.Pieces.{overwritten}
@@ -21,9 +21,9 @@ length-encoded r e = ap (λ n. suc (suc n)) e
 
 -- two bytes, and then the page, written one after the other
 pub put-record : (at low high : ℕ) (memory bytes put : List ℕ) → at + 66 ≤ length memory → length bytes ≡ 64 → put ≡ bytes
-    → putMid (at + 2) (at + 2 + 64 - (at + 2)) (set (set memory at low) (at + 1) high) put ≡ overwritten memory at (low ∷ (high ∷ bytes))
+    → putMid (at + 2) (at + 66 - (at + 2)) (set (set memory at low) (at + 1) high) put ≡ overwritten memory at (low ∷ (high ∷ bytes))
 put-record at low high memory bytes put fits wide same =
-    let n : at + 2 + 64 - (at + 2) ≡ 64 = omega arith in
+    let n : at + 66 - (at + 2) ≡ 64 = omega arith in
     let two : at + 1 + 1 ≡ at + 2 = omega arith in
     let marked : List ℕ = set (set memory at low) (at + 1) high in
     let front : take (at + 2) marked ≡ take at memory ++ (low ∷ (high ∷ [])) =

@@ -3,17 +3,16 @@ use mathlib.Core.Path.{_≡_, refl, sym, _∙_, ap, subst}
 use mathlib.Core.Bool.{Bool, true, false, cond}
 use mathlib.Core.List.{List, [], _∷_, _++_}
 use mathlib.Core.Logic.{_⊎_, inl, inr, ⊎-elim}
-use Prim.Native.Nat.{ℕ, zero, suc, _+_, _<_, _≤_}
+use Prim.Native.Nat.{ℕ, zero, suc, _+_, _<_}
 use native.Mathlib.Omega.{arith}
 use lib.Dec.{eqb}
-use lib.ListN.{length, getD}
-use Rattle.std.specs.Options.{isSome}
+use lib.ListN.{length}
 use Rattle.std.specs.declared.option.Option.{Option}
 use Rattle.std.specs.declared.option.Option.the-variants.{Some, None}
 use Rattle.std.specs.shelf.Lists.{All}
 use Rattle.std.proofs.shelf.Lists.{getD-push, getD-append-left}
-use Rattle.std.proofs.shelf.Tests.{eqb-true, eqb-false, eq-eqb, ne-eqb, cases-bool, cases-eq}
-use Rattle.pages.specs.Records.{Record, blank, recordAt, after, lastPlace, bytesAt, content, unlessLater, compacted, IsLast, Content}
+use Rattle.std.proofs.shelf.Tests.{eqb-true, eqb-false, ne-eqb, cases-bool}
+use Rattle.pages.specs.Records.{Record, blank, recordAt, after, lastPlace, bytesAt, content, unlessLater, compacted, IsLast, Content, Located}
 
 -- the cases of a page's last place
 
@@ -24,11 +23,7 @@ either (Some k) = inr (k, refl)
 pub some≢none : (k : ℕ) → Some k ≡ None → ⊥
 some≢none k e = let z : _≡_ {A = ℕ} 0 1 = cc in omega arith
 
--- a page that the first record does not name has its last place one further
-pub after-other : (here : Bool) (o : Option ℕ) → here ≡ false → after here o ≡ None → o ≡ None
-after-other here None e n = refl
-after-other here (Some k) e n = absurd (some≢none (suc k) n)
-
+-- where there is none, neither the first record nor a later one names the page
 after-none : (here : Bool) (o : Option ℕ) → after here o ≡ None → (o ≡ None) × (here ≡ false)
 after-none true None e = absurd (some≢none 0 e)
 after-none false None e = (refl, refl)
@@ -78,6 +73,14 @@ lastPlace-is (r ∷ rs) p k e = ⊎-elim first (λ s. further (s .0) (s .1) (las
         absent f =
             let bad : Some k ≡ None = cc in
             absurd (some≢none k bad)
+
+-- the place found, in the words of the relation
+pub lastPlace-located : (rs : List Record) (p : ℕ) → Located rs p (lastPlace rs p)
+lastPlace-located rs p = located (lastPlace rs p) refl
+  where
+    located : (o : Option ℕ) → lastPlace rs p ≡ o → Located rs p o
+    located None e = lastPlace-none rs p e
+    located (Some k) e = lastPlace-is rs p k e
 
 -- a page's content, in the words of the relation
 pub content-is : (rs : List Record) (p : ℕ) → Content rs p (content rs p)

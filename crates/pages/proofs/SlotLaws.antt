@@ -6,18 +6,17 @@ use Prim.Native.Nat.{ℕ, zero, suc, _+_, _-_, _*_, _<_, _≤_}
 use native.Mathlib.Nat.{zero-add}
 use native.Mathlib.Omega.{arith}
 use lib.ListN.{length, getD, take, drop}
-use lib.Seq.{take-add}
-use Rattle.std.specs.Iters.{counting}
+use lib.Seq.{take-add, paste}
 use Rattle.std.specs.Joined.{joined}
 use Rattle.std.specs.shelf.Lists.{All}
 use Rattle.std.proofs.shelf.Counted.{map-counting-more}
 use Rattle.std.proofs.shelf.Elements.{all-from-getD, all-getD}
-use Rattle.std.proofs.shelf.Lists.{append-nil, length-map, map-push, getD-map, joined-more, length-append, length-drop, length-take-le, take-at, drop-at}
+use Rattle.std.proofs.shelf.Lists.{length-map, map-push, getD-map, joined-more, append-assoc, drop-drop, drop-take}
 use Rattle.std.proofs.shelf.Tests.{cases-eq}
 use Rattle.pages.specs.Pieces.{piece, pieces, overwritten}
 use Rattle.pages.specs.Records.{Record, blank}
-use Rattle.pages.specs.Log.{encoded, decoded, recordsIn, Exact, Known, LaidOut}
-use Rattle.pages.proofs.Pieces.{length-piece, length-pieces, getD-pieces, pieces-same, piece-ends, piece-overwritten-same, piece-overwritten-other}
+use Rattle.pages.specs.Log.{encoded, decoded, recordsIn, Exact, Known}
+use Rattle.pages.proofs.Pieces.{length-piece, length-pieces, getD-pieces, pieces-same, piece-overwritten-same, piece-overwritten-other}
 
 pub length-recordsIn : (n : ℕ) (memory : List ℕ) → length (recordsIn n memory) ≡ n
 length-recordsIn n memory = length-map (pieces 66 n memory) decoded ∙ length-pieces 66 n memory
@@ -73,50 +72,22 @@ exact-laid (suc n) memory exact =
     e : n + 1 ≡ suc n
     e = omega arith
 
--- and records in the layout, cut apart again, are exact slots
-slot-length : (k : ℕ) (memory : List ℕ) → 66 * k + 66 ≤ length memory → length (encoded (decoded (piece 66 memory k))) ≡ 66
-slot-length k memory fits =
-    ap (λ n. suc (suc n)) (length-drop 2 (piece 66 memory k) ∙ ap (λ n. n - 2) (length-piece 66 k memory fits))
+-- the part of a slot that is the page
+pub slot-page : (k : ℕ) (memory : List ℕ) → take (66 * k + 66 - (66 * k + 2)) (drop (66 * k + 2) memory) ≡ drop 2 (piece 66 memory k)
+slot-page k memory =
+    let n : 66 * k + 66 - (66 * k + 2) ≡ 64 = omega arith in
+    ap (λ i. take i (drop (66 * k + 2) memory)) n
+    ∙ ap (take 64) (sym (drop-drop 2 (66 * k) memory))
+    ∙ sym (drop-take 2 64 (drop (66 * k) memory))
 
-laid-more : (n : ℕ) (memory : List ℕ)
-    → joined encoded (recordsIn (n + 1) memory) ≡ joined encoded (recordsIn n memory) ++ encoded (decoded (piece 66 memory n))
-laid-more n memory =
-    ap (joined encoded) (recordsIn-more n memory)
-    ∙ sym (joined-more encoded [] (recordsIn n memory) (decoded (piece 66 memory n)))
-
-laid-length : (n : ℕ) (memory : List ℕ) → 66 * n ≤ length memory → length (joined encoded (recordsIn n memory)) ≡ 66 * n
-laid-length zero memory fits = refl
-laid-length (suc n) memory fits =
-    let e : n + 1 ≡ suc n = omega arith in
-    let front = laid-length n memory (omega arith) in
-    let back = slot-length n memory (omega arith) in
-    ap (λ k. length (joined encoded (recordsIn k memory))) (sym e)
-    ∙ ap length (laid-more n memory)
-    ∙ length-append (joined encoded (recordsIn n memory)) (encoded (decoded (piece 66 memory n)))
-    ∙ (let z : length (joined encoded (recordsIn n memory)) + length (encoded (decoded (piece 66 memory n))) ≡ 66 * suc n = omega arith in z)
-
-laid-halves : (n : ℕ) (memory : List ℕ) → 66 * suc n ≤ length memory → take (66 * suc n) memory ≡ joined encoded (recordsIn (suc n) memory)
-    → (take (66 * n) memory ≡ joined encoded (recordsIn n memory)) × (piece 66 memory n ≡ encoded (decoded (piece 66 memory n)))
-laid-halves n memory fits laid =
-    let e : n + 1 ≡ suc n = omega arith in
-    let a : length (take (66 * n) memory) ≡ 66 * n = length-take-le (66 * n) memory (omega arith) in
-    let b : length (joined encoded (recordsIn n memory)) ≡ 66 * n = laid-length n memory (omega arith) in
-    let both : take (66 * n) memory ++ piece 66 memory n ≡ joined encoded (recordsIn n memory) ++ encoded (decoded (piece 66 memory n)) =
-    sym (take-piece n memory) ∙ ap (λ k. take (66 * k) memory) e ∙ laid ∙ ap (λ k. joined encoded (recordsIn k memory)) (sym e) ∙ laid-more n memory in (
-      sym (take-at (take (66 * n) memory) (piece 66 memory n) (66 * n) a) ∙ ap (take (66 * n)) both
-          ∙ take-at (joined encoded (recordsIn n memory)) (encoded (decoded (piece 66 memory n))) (66 * n) b,
-      sym (drop-at (take (66 * n) memory) (piece 66 memory n) (66 * n) a) ∙ ap (drop (66 * n)) both
-          ∙ drop-at (joined encoded (recordsIn n memory)) (encoded (decoded (piece 66 memory n))) (66 * n) b,
-    )
-
-pub laid-exact : (n : ℕ) (memory : List ℕ) → 66 * n ≤ length memory → take (66 * n) memory ≡ joined encoded (recordsIn n memory) → Exact n memory
-laid-exact zero memory fits laid k lt = absurd (let z : ⊥ = omega arith in z)
-laid-exact (suc n) memory fits laid k lt =
-    let h = laid-halves n memory fits laid in
-    ⊎-elim
-    (λ same. subst (λ j. piece 66 memory j ≡ encoded (decoded (piece 66 memory j))) (sym same) (h .1))
-    (λ apart. laid-exact n memory (omega arith) (h .0) k (omega (arith, apart)))
-    (cases-eq k n)
+-- one slot copied over another
+pub slot-moved : (from to : ℕ) (memory : List ℕ) → 66 * from + 66 ≤ length memory
+    → paste memory (66 * to) (drop (66 * from) memory) (66 * from + 66 - 66 * from) ≡ overwritten memory (66 * to) (piece 66 memory from)
+slot-moved from to memory fits =
+    let n : 66 * from + 66 - 66 * from ≡ 66 = omega arith in
+    ap (paste memory (66 * to) (drop (66 * from) memory)) n
+    ∙ append-assoc (take (66 * to) memory) (piece 66 memory from) (drop (66 * to + 66) memory)
+    ∙ ap (λ k. take (66 * to) memory ++ (piece 66 memory from ++ drop (66 * to + k) memory)) (sym (length-piece 66 from memory fits))
 
 pub known-all : (count n : ℕ) (memory : List ℕ) → Known count n memory → All (λ (r : Record). r .page < count) (recordsIn n memory)
 known-all count n memory known =

@@ -1,4 +1,6 @@
 -- The refusals of the page stores: the number of each, and what a call answers that has both checks.
+use lib.Chars.{codes}
+use mathlib.Core.List.{List}
 use mathlib.Core.Path.{_≡_}
 use mathlib.Core.Logic.{_⊎_}
 use Prim.Native.Nat.{ℕ}
@@ -11,6 +13,11 @@ use Rattle.std.specs.declared.result.Result.the-variants.{Ok, Err}
 abbrev pub numberOf : StoreFault → ℕ
 numberOf WrongLength = 2
 numberOf NoSuchPage = 3
+
+-- what a refusal reads like where it is printed
+abbrev pub textOf : StoreFault → List ℕ
+textOf WrongLength = codes "wrong buffer length"
+textOf NoSuchPage = codes "no such page"
 
 -- Two checks, tried in turn: 2 where the buffer does not fit, then 3 where the pages asked for are not there.
 abbrev pub Refuses : (Fits There : Type 0) → ℕ → Type 0

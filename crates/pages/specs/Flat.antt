@@ -3,7 +3,7 @@ use mathlib.Core.Path.{_≡_}
 use mathlib.Core.List.{List}
 use Prim.Native.Nat.{ℕ, _*_, _/_, _<_, min}
 use lib.ListN.{length, drop}
-use denote.Ref.{now}
+use denote.Ref.{now, name}
 use Rattle.std.specs.declared.result.Result.{Result}
 use Rattle.pages.specs.declared.fault.StoreFault.{StoreFault}
 use Rattle.pages.specs.declared.flat.FlatStore.{FlatStore}
@@ -36,3 +36,8 @@ FlatWrites store p bytes store′ =
 -- the bytes past the last page
 abbrev pub pastLastPage : List ℕ → List ℕ
 pastLastPage memory = drop (64 * flatCount (length memory)) memory
+
+-- The memory is the one that was lent, and its bytes past the last page are as they were.
+pub record SameMemory (store store′ : FlatStore) : Type 0 where
+  pub lent : name (store′ .memory) ≡ name (store .memory)
+  pub past : pastLastPage (memoryOf store′) ≡ pastLastPage (memoryOf store)

@@ -2,16 +2,18 @@
 use mathlib.Core.List.{List, [], _∷_, _++_}
 use mathlib.Core.Path.{_≡_}
 use Prim.Native.Nat.{ℕ, _<_}
-use lib.ListN.{length}
+use lib.ListN.{length, getD}
 use denote.Ref.{now, name}
+use Rattle.std.specs.declared.option.Option.the-variants.{None}
 use Rattle.std.specs.declared.result.Result.{Result}
 use Rattle.pages.specs.declared.fault.StoreFault.{StoreFault}
 use Rattle.pages.specs.declared.log.LogStore.{LogStore}
 use Rattle.pages.specs.Fault.{Answers}
-use Rattle.pages.specs.Log.{slotsIn, recordsIn, logPages, appendable, pastLastSlot, LaidOut}
-use Rattle.pages.specs.Records.{Record}
+use Rattle.pages.specs.Log.{slotsIn, recordsIn, logPages, pastLastSlot, LaidOut, RoomMade}
+use Rattle.pages.specs.Records.{Record, Located}
 use Rattle.pages.specs.Store.{Page}
 
+-- the memory that was lent
 abbrev pub memoryOf : LogStore → List ℕ
 memoryOf store = now (store .memory)
 
@@ -19,17 +21,21 @@ memoryOf store = now (store .memory)
 abbrev pub recordsOf : LogStore → List Record
 recordsOf store = recordsIn (store .filled) (memoryOf store)
 
+-- the pages: the content of each
 abbrev pub pagesOf : LogStore → List Page
 pagesOf store = logPages (store .filled) (memoryOf store)
 
--- The filled slots are the records in the layout.
-abbrev pub LaidOutIn : LogStore → Type 0
-LaidOutIn store = LaidOut (length (recordsOf store)) (memoryOf store) (recordsOf store)
+-- The index has for each page the place of its last record.
+abbrev pub IndexRight : LogStore → Type 0
+IndexRight store = (p : ℕ) → Located (recordsOf store) p (getD (store .last) p None)
 
--- one more record: appended, or appended to the last record of each page where every slot was filled
-abbrev pub Appended : LogStore → ℕ → List ℕ → LogStore → Type 0
+-- One more record, appended to what a full log keeps or to all records, and the filled slots are the records in the layout.
+abbrev pub Appended : LogStore → ℕ → Page → LogStore → Type 0
 Appended store p bytes store′ =
-    recordsOf store′ ≡ appendable (slotsIn (length (memoryOf store))) (recordsOf store) ++ record { page = p; bytes = bytes } ∷ []
+    ((kept : List Record) × RoomMade (slotsIn (length (memoryOf store))) (recordsOf store) kept
+    × (recordsOf store′ ≡ kept ++ record { page = p; bytes = bytes } ∷ [])
+    )
+    × LaidOut (memoryOf store′) (recordsOf store′)
 
 -- A write appends its record to the log; a refused one alters nothing.
 abbrev pub LogWrites : LogStore → ℕ → List ℕ → LogStore → Result Unit StoreFault → Type 0

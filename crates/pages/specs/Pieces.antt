@@ -12,6 +12,6 @@ piece width memory k = take width (drop (width * k) memory)
 abbrev pub pieces : ℕ → ℕ → List ℕ → List (List ℕ)
 pieces width n memory = map (piece width memory) (counting 0 n)
 
--- the memory with `bytes` in place of as many bytes from `at` on
+-- the memory with `bytes` in place of as many bytes from `at` on, for which it has room; every other byte stays
 abbrev pub overwritten : List ℕ → ℕ → List ℕ → List ℕ
 overwritten memory at bytes = take at memory ++ (bytes ++ drop (at + length bytes) memory)

@@ -1,6 +1,6 @@
 -- Records of page writes, in the order in which they came: a page's last record is its content.
 use mathlib.Core.Bool.{Bool, cond}
-use mathlib.Core.List.{List, [], _∷_, _++_, map}
+use mathlib.Core.List.{List, [], _∷_, map}
 use mathlib.Core.Logic.{_⊎_}
 use mathlib.Core.Path.{_≡_}
 use Prim.Native.Nat.{ℕ, suc, _<_}
@@ -8,16 +8,17 @@ use lib.Dec.{eqb}
 use lib.ListN.{length, getD, replicate}
 use Rattle.std.specs.Iters.{counting}
 use Rattle.std.specs.shelf.Lists.{All, Has}
+use Rattle.pages.specs.Store.{Page}
 use Rattle.std.specs.declared.option.Option.{Option}
 use Rattle.std.specs.declared.option.Option.the-variants.{Some, None}
 
 -- a page number, and the bytes that were written to that page
 pub record Record : Type 0 where
   pub page : ℕ
-  pub bytes : List ℕ
+  pub bytes : Page
 
 -- a page that was never written: 64 zero bytes
-abbrev pub blank : List ℕ
+abbrev pub blank : Page
 blank = replicate 64 0
 
 -- the record at place k, and a blank one past the end
@@ -35,16 +36,16 @@ lastPlace [] p = None
 lastPlace (r ∷ rs) p = after (eqb (r .page) p) (lastPlace rs p)
 
 -- the bytes of the record at a place, and of a page without one
-abbrev pub bytesAt : List Record → Option ℕ → List ℕ
+abbrev pub bytesAt : List Record → Option ℕ → Page
 bytesAt records (Some k) = recordAt records k .bytes
 bytesAt records None = blank
 
 -- a page's content (`Content`, below, says what that is)
-abbrev pub content : List Record → ℕ → List ℕ
+abbrev pub content : List Record → ℕ → Page
 content records p = bytesAt records (lastPlace records p)
 
 -- the first n pages
-abbrev pub contents : ℕ → List Record → List (List ℕ)
+abbrev pub contents : ℕ → List Record → List Page
 contents n records = map (content records) (counting 0 n)
 
 -- a record is kept unless a later one names its page
@@ -63,6 +64,10 @@ IsLast records p k =
     (k < length records) × (recordAt records k .page ≡ p)
     × ((j : ℕ) → k < j → j < length records → recordAt records j .page ≡ p → ⊥)
 
+-- No record is of page p.
+abbrev pub Unwritten : List Record → ℕ → Type 0
+Unwritten records p = (j : ℕ) → j < length records → recordAt records j .page ≡ p → ⊥
+
 -- from lower to higher numbers
 abbrev pub Rising : List ℕ → Type 0
 Rising [] = Unit {0}
@@ -77,7 +82,12 @@ LastOfEach records kept =
     × (kept ≡ map (recordAt records) places)
 
 -- Page p holds these bytes: those of its last record or, where it has none, zeros.
-abbrev pub Content : List Record → ℕ → List ℕ → Type 0
+abbrev pub Content : List Record → ℕ → Page → Type 0
 Content records p bytes =
     ((k : ℕ) × IsLast records p k × (bytes ≡ recordAt records k .bytes))
-    ⊎ (((j : ℕ) → j < length records → recordAt records j .page ≡ p → ⊥) × (bytes ≡ blank))
+    ⊎ (Unwritten records p × (bytes ≡ blank))
+
+-- This is the place of page p's last record, or none where it has no record.
+abbrev pub Located : List Record → ℕ → Option ℕ → Type 0
+Located records p (Some k) = IsLast records p k
+Located records p None = Unwritten records p

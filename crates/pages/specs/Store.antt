@@ -4,6 +4,7 @@ use mathlib.Core.List.{List, []}
 use Prim.Native.Nat.{ℕ, _*_, _<_, _≤_}
 use lib.ListN.{length, getD, set, take}
 use Rattle.std.specs.Joined.{joined}
+use Rattle.std.specs.shelf.Lists.{All}
 use Rattle.std.specs.declared.result.Result.{Result}
 use Rattle.pages.specs.declared.fault.StoreFault.{StoreFault}
 use Rattle.pages.specs.Fault.{Answers}
@@ -15,7 +16,7 @@ Page = List ℕ
 -- at most 4,096 pages, each of 64 bytes
 pub record Shaped (pages : List Page) : Type 0 where
   pub few : length pages ≤ 4096
-  pub wide : (p : ℕ) → p < length pages → length (getD pages p []) ≡ 64
+  pub wide : All (λ page. length page ≡ 64) pages
 
 -- Reading page p fills the buffer with its bytes.
 abbrev pub Reads : List Page → ℕ → List ℕ → List ℕ → Result Unit StoreFault → Type 0

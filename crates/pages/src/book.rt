@@ -1,8 +1,7 @@
-// A whole book at once: the first pages of any store, one after the other.
+// Many pages at once: an export copies the first pages of any store into one buffer, or leaves the buffer as it was.
 
-ghost use mathlib.Core.List.{List};
 ghost use mathlib.Core.Path.{_≡_};
-ghost use Prim.Native.Nat.{ℕ, _*_, _≤_};
+ghost use Prim.Native.Nat.{_*_, _≤_};
 ghost use lib.ListN.{length};
 ghost use Rattle.pages.specs.Store.{Exports};
 use crate::fault::StoreFault;

@@ -1,12 +1,12 @@
-// A page store over lent memory in which page p lies at byte 64 × p.
+// A page store over lent memory in which page p lies at byte 64 × p: as many pages as fit, at most 4,096.
 // The bytes past the last page are never altered.
 
 ghost use denote.Ref.{now, name};
-ghost use mathlib.Core.List.{List, []};
+ghost use mathlib.Core.List.{[]};
 ghost use mathlib.Core.Path.{_≡_};
-ghost use Prim.Native.Nat.{ℕ, _*_, _<_};
+ghost use Prim.Native.Nat.{_*_, _<_};
 ghost use lib.ListN.{length, getD, set};
-ghost use Rattle.pages.specs.Flat.{flatCount, flatPages, memoryOf, pagesOf, pastLastPage, FlatWrites};
+ghost use Rattle.pages.specs.Flat.{flatCount, flatPages, memoryOf, pagesOf, pastLastPage, FlatWrites, SameMemory};
 ghost use Rattle.pages.specs.Pieces.{piece, overwritten};
 ghost use Rattle.pages.specs.Store.{Reads, Shaped, Writes};
 ghost use Rattle.std.specs.Vec.{made};
@@ -22,8 +22,9 @@ pub struct FlatStore<'a> {
 }
 
 impl<'a> FlatStore<'a> {
-    // The store of the pages that the memory holds as it stands. What its calls then leave in the memory is
-    // what the lender finds there: `lent` says, here and at a write, that the memory is still the same.
+    // The store of the pages that the memory holds as it stands.
+    // The names of references say that the store goes on using this memory, so that the lender knows
+    // what it holds once the store is gone.
     pub fn new(memory: &'a mut [u8]) -> FlatStore<'a>
         ensures holds { λ r. ⌜ memoryOf r ≡ now (memory .entry) ⌝ }
         ensures lent { λ r. ⌜ name (r .memory) ≡ name (memory .entry) ⌝ }
@@ -82,14 +83,13 @@ pub impl<'a> PageStore for FlatStore<'a> as FlatPages {
         Ok(())
     }
 
-    fn write(&mut self, page: u16, buffer: &[u8]) -> Result<(), StoreFault>
-        ensures pages { λ r. ⌜ Writes (pagesOf (now (self .entry))) page (now (buffer .entry)) (pagesOf (now (self .exit))) r ⌝ }
-        ensures bytes { λ r. ⌜ FlatWrites (now (self .entry)) page (now (buffer .entry)) (now (self .exit)) r ⌝ }
-        ensures past { λ _. ⌜ pastLastPage (memoryOf (now (self .exit))) ≡ pastLastPage (memoryOf (now (self .entry))) ⌝ }
-        ensures lent { λ _. ⌜ name (now (self .exit) .memory) ≡ name (now (self .entry) .memory) ⌝ }
+    fn write(&mut self, page: u16, bytes: &[u8]) -> Result<(), StoreFault>
+        ensures pages { λ r. ⌜ Writes (pagesOf (now (self .entry))) page (now (bytes .entry)) (pagesOf (now (self .exit))) r ⌝ }
+        ensures bytes { λ r. ⌜ FlatWrites (now (self .entry)) page (now (bytes .entry)) (now (self .exit)) r ⌝ }
+        ensures memory { λ _. ⌜ SameMemory (now (self .entry)) (now (self .exit)) ⌝ }
     {
-        check_access(self.count(), page, buffer.len())?;
-        write_page(self.memory, page, buffer);
+        check_access(self.count(), page, bytes.len())?;
+        write_page(self.memory, page, bytes);
         Ok(())
     }
 }

@@ -8,7 +8,7 @@ ghost use denote.Ref.{now};
 ghost use mathlib.Core.Path.{_≡_};
 ghost use Prim.Native.Nat.{_≤_};
 ghost use lib.ListN.{length};
-ghost use Rattle.pages.specs.Log.{logCount, recordsIn, slotsIn, Indexes, Known, LaidOut};
+ghost use Rattle.pages.specs.Log.{logCount, recordsIn, slotsIn, Exact, Indexes, Known};
 pub use crate::log::calls::LogPages;
 use crate::store::MOST_PAGES;
 
@@ -19,9 +19,12 @@ pub struct LogStore<'a> {
     filled: usize,
     // for each page, the slot of its last record
     last: [Option<u16>; MOST_PAGES],
+    // the filled slots are slots of the memory
     ghost few: { filled ≤ slotsIn (length (now memory)) },
     ghost wide: { length last ≡ 4096 },
-    ghost laid: { LaidOut filled (now memory) (recordsIn filled (now memory)) },
+    // each holds the bytes of a record, of a page that the store has
+    ghost exact: { Exact filled (now memory) },
     ghost known: { Known (logCount (length (now memory))) filled (now memory) },
+    // the index is right
     ghost indexed: { Indexes last (recordsIn filled (now memory)) },
 }

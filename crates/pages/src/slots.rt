@@ -1,18 +1,21 @@
 // The log store's memory as slots of 66 bytes: a page number, low byte first, and then the page.
-// Each function says which slots it changes, and that every other byte stays.
+// Each function says what the slots then hold, and that no byte past them changes.
 
-ghost use mathlib.Core.List.{List};
 ghost use mathlib.Core.Path.{_≡_};
-ghost use Prim.Native.Nat.{ℕ, _+_, _*_, _<_, _≤_};
+ghost use Prim.Native.Nat.{_+_, _*_, _<_, _≤_};
 ghost use lib.ListN.{length, drop};
 ghost use Rattle.pages.specs.Records.{compacted};
 ghost use Rattle.pages.specs.Log.{decoded, encoded, recordsIn, slotsIn, Exact, Indexes, Known};
 ghost use Rattle.pages.specs.Pieces.{piece, overwritten};
-use crate::store::PAGE_BYTES;
+use crate::store::MOST_PAGES;
 
-pub(crate) const SLOT_BYTES: usize = 66;
+// the bytes of a slot
+pub const SLOT_BYTES: usize = 66;
 
-pub(crate) const MOST_SLOTS: usize = 8192;
+// where the page stands in a slot, behind its number
+const PAGE_AT: usize = 2;
+
+const MOST_SLOTS: usize = 2 * MOST_PAGES;
 
 // How many slots a memory of so many bytes holds.
 pub(crate) fn slots_in(bytes: usize) -> usize
@@ -22,7 +25,7 @@ pub(crate) fn slots_in(bytes: usize) -> usize
 }
 
 // The page whose record a slot holds.
-pub(crate) fn page_at(memory: &[u8], slot: usize) -> u16
+fn page_at(memory: &[u8], slot: usize) -> u16
     requires { ⌜ 66 * slot + 66 ≤ length (now memory) ⌝ }
     ensures { λ r. ⌜ r ≡ decoded (piece 66 (now (memory .entry)) slot) .page ⌝ }
 {
@@ -30,28 +33,37 @@ pub(crate) fn page_at(memory: &[u8], slot: usize) -> u16
     u16::from_le_bytes([memory[at], memory[at + 1]])
 }
 
+// Fills the buffer with the page that a slot holds.
+pub(crate) fn copy_page(memory: &[u8], slot: usize, buffer: &mut [u8])
+    requires fits { ⌜ 66 * slot + 66 ≤ length (now memory) ⌝ }
+    requires wide { ⌜ length (now buffer) ≡ 64 ⌝ }
+    ensures { λ _. ⌜ now (buffer .exit) ≡ decoded (piece 66 (now (memory .entry)) slot) .bytes ⌝ }
+{
+    let at = SLOT_BYTES * slot;
+    buffer.copy_from_slice(&memory[at + PAGE_AT..at + SLOT_BYTES]);
+}
+
 // Copies one slot over another.
-pub(crate) fn move_slot(memory: &mut [u8], from: usize, to: usize)
-    requires { ⌜ 66 * from + 66 ≤ length (now memory) ⌝ ∗ ⌜ 66 * to + 66 ≤ length (now memory) ⌝ }
+fn move_slot(memory: &mut [u8], from: usize, to: usize)
+    requires from { ⌜ 66 * from + 66 ≤ length (now memory) ⌝ }
+    requires to { ⌜ 66 * to + 66 ≤ length (now memory) ⌝ }
     ensures { λ _. ⌜ now (memory .exit) ≡ overwritten (now (memory .entry)) (66 * to) (piece 66 (now (memory .entry)) from) ⌝ }
 {
-    let mut record = [0; SLOT_BYTES];
     let at = SLOT_BYTES * from;
-    record.copy_from_slice(&memory[at..at + SLOT_BYTES]);
-    let at = SLOT_BYTES * to;
-    memory[at..at + SLOT_BYTES].copy_from_slice(&record);
+    memory.copy_within(at..at + SLOT_BYTES, SLOT_BYTES * to);
 }
 
 // Makes a slot the record of a page's bytes.
 pub(crate) fn put_record(memory: &mut [u8], slot: usize, page: u16, bytes: &[u8])
-    requires { ⌜ 66 * slot + 66 ≤ length (now memory) ⌝ ∗ ⌜ length (now bytes) ≡ 64 ⌝ }
+    requires fits { ⌜ 66 * slot + 66 ≤ length (now memory) ⌝ }
+    requires wide { ⌜ length (now bytes) ≡ 64 ⌝ }
     ensures { λ _. ⌜ now (memory .exit) ≡ overwritten (now (memory .entry)) (66 * slot) (encoded (record { page = page; bytes = now (bytes .entry) })) ⌝ }
 {
     let at = SLOT_BYTES * slot;
     let [low, high] = page.to_le_bytes();
     memory[at] = low;
     memory[at + 1] = high;
-    memory[at + 2..at + 2 + PAGE_BYTES].copy_from_slice(bytes);
+    memory[at + PAGE_AT..at + SLOT_BYTES].copy_from_slice(bytes);
 }
 
 // Moves the last record of each page to the front, in their order, and answers how many there are.

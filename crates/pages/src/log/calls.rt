@@ -1,29 +1,28 @@
-// What a log store does: appends a record for each write, and reads a page at its last record.
+// What a log store does: it appends a record for each write, and reads a page at its last record.
+// A refused call changes neither the memory nor the records.
 
 ghost use denote.Ref.{now, name};
-ghost use mathlib.Core.List.{List, []};
+ghost use mathlib.Core.List.{[]};
 ghost use mathlib.Core.Path.{_≡_};
-ghost use Prim.Native.Nat.{ℕ, _<_, _≤_};
+ghost use Prim.Native.Nat.{_<_};
 ghost use lib.ListN.{length, getD, set};
-ghost use Rattle.pages.specs.Log.{appendable, logCount, slotsIn, Indexes};
-ghost use Rattle.pages.specs.LogView.{memoryOf, pagesOf, recordsOf, Appended, LaidOutIn, LogWrites, SameMemory};
-ghost use Rattle.pages.specs.Records.{compacted, Content, LastOfEach};
+ghost use Rattle.pages.specs.Log.{logCount, slotsIn, withRoom, Indexes, LaidOut};
+ghost use Rattle.pages.specs.LogView.{memoryOf, pagesOf, recordsOf, Appended, IndexRight, LogWrites, SameMemory};
+ghost use Rattle.pages.specs.Records.{Content};
 ghost use Rattle.pages.specs.Store.{Reads, Shaped, Writes};
 ghost use Rattle.std.specs.Vec.{made};
 use crate::fault::StoreFault;
 use crate::log::LogStore;
-use crate::slots::SLOT_BYTES;
 use crate::slots::compact;
+use crate::slots::copy_page;
 use crate::slots::put_record;
 use crate::slots::slots_in;
 use crate::store::MOST_PAGES;
-use crate::store::PAGE_BYTES;
 use crate::store::PageStore;
 use crate::store::check_access;
 
 impl<'a> LogStore<'a> {
-    // A store without records, whatever the memory holds. What its calls then leave in the memory is
-    // what the lender finds there: `lent` says, here and at a write, that the memory is still the same.
+    // A store without records, whatever the memory holds.
     pub fn new(memory: &'a mut [u8]) -> LogStore<'a>
         ensures empty { λ r. ⌜ recordsOf r ≡ [] ⌝ }
         ensures holds { λ r. ⌜ memoryOf r ≡ now (memory .entry) ⌝ }
@@ -39,7 +38,14 @@ impl<'a> LogStore<'a> {
     // How many records the log holds.
     pub fn records(&self) -> usize
         ensures value { λ r. ⌜ r ≡ length (recordsOf (now (self .entry))) ⌝ }
-        ensures layout { λ _. ⌜ LaidOutIn (now (self .entry)) ⌝ }
+        ensures layout { λ _. ⌜ LaidOut (memoryOf (now (self .entry))) (recordsOf (now (self .entry))) ⌝ }
+    {
+        self.record_count()
+    }
+
+    fn record_count(&self) -> usize
+        ensures value { λ r. ⌜ r ≡ length (recordsOf (now (self .entry))) ⌝ }
+        ensures layout { λ _. ⌜ LaidOut (memoryOf (now (self .entry))) (recordsOf (now (self .entry))) ⌝ }
     {
         self.filled
     }
@@ -58,20 +64,18 @@ impl<'a> LogStore<'a> {
         requires there { ⌜ page < length (pagesOf (now self)) ⌝ }
         ensures page { λ _. ⌜ now (buffer .exit) ≡ getD (pagesOf (now (self .entry))) page [] ⌝ }
         ensures last { λ _. ⌜ Content (recordsOf (now (self .entry))) page (now (buffer .exit)) ⌝ }
+        ensures index { λ _. ⌜ IndexRight (now (self .entry)) ⌝ }
     {
         let last = self.last[usize::from(page)];
         match last {
-            Some(slot) => {
-                let at = SLOT_BYTES * usize::from(slot) + 2;
-                buffer.copy_from_slice(&self.memory[at..at + PAGE_BYTES]);
-            }
+            Some(slot) => copy_page(self.memory, usize::from(slot), buffer),
             None => buffer.fill(0),
         }
     }
 
     // Compacts the log where every slot is filled, so that a page's next record has room.
     fn make_room(&mut self)
-        ensures records { λ _. ⌜ recordsOf (now (self .exit)) ≡ appendable (slotsIn (length (memoryOf (now (self .entry))))) (recordsOf (now (self .entry))) ⌝ }
+        ensures records { λ _. ⌜ recordsOf (now (self .exit)) ≡ withRoom (slotsIn (length (memoryOf (now (self .entry))))) (recordsOf (now (self .entry))) ⌝ }
         ensures room { λ _. ⌜ (0 < length (pagesOf (now (self .entry))) → now (self .exit) .filled < slotsIn (length (memoryOf (now (self .entry))))) ⌝ }
         ensures memory { λ _. ⌜ SameMemory (now (self .entry)) (now (self .exit)) ⌝ }
     {
@@ -92,7 +96,6 @@ impl<'a> LogStore<'a> {
         requires there { ⌜ page < length (pagesOf (now self)) ⌝ }
         ensures pages { λ _. ⌜ pagesOf (now (self .exit)) ≡ set (pagesOf (now (self .entry))) page (now (bytes .entry)) ⌝ }
         ensures records { λ _. ⌜ Appended (now (self .entry)) page (now (bytes .entry)) (now (self .exit)) ⌝ }
-        ensures compaction { λ _. ⌜ LastOfEach (recordsOf (now (self .entry))) (compacted (recordsOf (now (self .entry)))) ⌝ }
         ensures memory { λ _. ⌜ SameMemory (now (self .entry)) (now (self .exit)) ⌝ }
     {
         self.make_room();
@@ -129,21 +132,20 @@ pub impl<'a> PageStore for LogStore<'a> as LogPages {
     fn read(&self, page: u16, buffer: &mut [u8]) -> Result<(), StoreFault>
         ensures page { λ r. ⌜ Reads (pagesOf (now (self .entry))) page (now (buffer .entry)) (now (buffer .exit)) r ⌝ }
         ensures last { λ r. ⌜ made r (λ _. Content (recordsOf (now (self .entry))) page (now (buffer .exit))) ⌝ }
+        ensures index { λ r. ⌜ made r (λ _. IndexRight (now (self .entry))) ⌝ }
     {
         check_access(self.page_count(), page, buffer.len())?;
         self.load(page, buffer);
         Ok(())
     }
 
-    fn write(&mut self, page: u16, buffer: &[u8]) -> Result<(), StoreFault>
-        ensures pages { λ r. ⌜ Writes (pagesOf (now (self .entry))) page (now (buffer .entry)) (pagesOf (now (self .exit))) r ⌝ }
-        ensures records { λ r. ⌜ LogWrites (now (self .entry)) page (now (buffer .entry)) (now (self .exit)) r ⌝ }
-        ensures compaction { λ r. ⌜ made r (λ _. LastOfEach (recordsOf (now (self .entry))) (compacted (recordsOf (now (self .entry))))) ⌝ }
-        ensures layout { λ _. ⌜ LaidOutIn (now (self .exit)) ⌝ }
+    fn write(&mut self, page: u16, bytes: &[u8]) -> Result<(), StoreFault>
+        ensures pages { λ r. ⌜ Writes (pagesOf (now (self .entry))) page (now (bytes .entry)) (pagesOf (now (self .exit))) r ⌝ }
+        ensures records { λ r. ⌜ LogWrites (now (self .entry)) page (now (bytes .entry)) (now (self .exit)) r ⌝ }
         ensures memory { λ _. ⌜ SameMemory (now (self .entry)) (now (self .exit)) ⌝ }
     {
-        check_access(self.page_count(), page, buffer.len())?;
-        self.append(page, buffer);
+        check_access(self.page_count(), page, bytes.len())?;
+        self.append(page, bytes);
         Ok(())
     }
 }

@@ -1,7 +1,4 @@
-use borrow.Author.Needs.{needs}
-use mathlib.Core.Path.{_≡_, sym, _∙_}
-use native.Mathlib.Omega.{arith}
-use lib.ListN.{length}
+use mathlib.Core.Path.{sym, _∙_}
 use Rattle.pages.proofs.FlatLaws.{flat-length, flat-shaped}
 use Rattle.pages.proofs.flat.pages_in.Needs as need
 

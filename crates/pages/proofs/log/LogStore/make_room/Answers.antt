@@ -3,7 +3,7 @@ use Prim.Native.Nat.{_*_, _<_, _≤_}
 use native.Mathlib.Omega.{arith}
 use lib.ListN.{length, drop}
 use Rattle.pages.specs.Log.{slotsIn, logCount, Known}
-use Rattle.pages.proofs.LogLaws.{log-length, exact-laid-out, laid-out-exact, room-left, room-made, compact-few, compact-known}
+use Rattle.pages.proofs.LogLaws.{log-length, room-left, room-made, compact-few, compact-known}
 use Rattle.pages.proofs.log.LogStore.make_room.Needs as need
 
 pub returns-then-self-slots-in : need.returns-then-self-slots-in
@@ -20,7 +20,7 @@ compact-requires c κs = record {
   fits = omega (arith, c .args .self .now .few);
   few = omega (arith, c .args .self .now .few);
   known = λ k lt. omega (arith, c .args .self .now .known k lt, c .args .self .now .wide);
-  exact = laid-out-exact (c .args .self .now .filled) (c .args .self .now .memory .now) (c .args .self .now .few) (c .args .self .now .laid);
+  exact = c .args .self .now .exact;
   indexed = c .args .self .now .indexed;
 }
 
@@ -34,7 +34,7 @@ ghost-self c =
       (
         c .compact .kept .last ∙ c .args .self .now .wide,
         (
-          exact-laid-out (c .compact .result) (c .compact .last .memory) (c .compact .ensures .exact),
+          c .compact .ensures .exact,
           (
             subst (λ n. Known (logCount n) (c .compact .result) (c .compact .last .memory)) (sym size)
                 (compact-known (logCount (length (c .args .self .now .memory .now))) (c .args .self .now .filled) (c .compact .result) (c .args .self .now .memory .now) (c .compact .last .memory)
