@@ -1,7 +1,10 @@
-// Exports of both stores: the pages side by side, and which number answers a wrong length or too many pages.
+// Exports of both stores, and of one that is no store of `pages`: the pages side by side, and which number answers a wrong
+// length or too many pages.
 
-use crate::by_hand::answer;
-use crate::by_hand::page_of;
+use crate::helpers::answer;
+use crate::helpers::page_of;
+use crate::one_page::OnePage;
+use crate::one_page::OnePagePages;
 use pages::FlatPages;
 use pages::FlatStore;
 use pages::LogPages;
@@ -63,4 +66,16 @@ fn log_store_is_exported_by_its_last_records(rt: LibcRuntime) -> Result<(), Fail
         check_eq(answer(store.write(page, &page_of(byte))), 0)?;
     }
     exports(&rt, &store)
+}
+
+#[test]
+fn store_of_a_vendors_own_is_exported() -> Result<(), Fail> {
+    let mut store = OnePage::of(4);
+    let mut buffer = page_of(0);
+    check_eq(answer(export(&store, 1, &mut buffer)), 0)?;
+    check(buffer == page_of(4))?;
+    check_eq(answer(store.write(0, &page_of(5))), 0)?;
+    check_eq(answer(export(&store, 1, &mut buffer)), 0)?;
+    check(buffer == page_of(5))?;
+    check_eq(answer(export(&store, 2, &mut [0; 128])), 3)
 }

@@ -1,7 +1,7 @@
 // Where the flat store's pages lie in its memory, and that the bytes past the last page stay.
 
-use crate::by_hand::answer;
-use crate::by_hand::page_of;
+use crate::helpers::answer;
+use crate::helpers::page_of;
 use pages::FlatPages;
 use pages::FlatStore;
 use pages::PageStore;

@@ -1,9 +1,8 @@
 // Memory that was lent to a store, once the store is gone: what the contracts of the stores tell the lender.
 
-ghost use mathlib.Core.List.{List};
 ghost use mathlib.Core.Path.{_≡_};
-ghost use Prim.Native.Nat.{ℕ, _*_};
-ghost use lib.ListN.{length, take};
+ghost use Prim.Native.Nat.{_*_};
+ghost use lib.ListN.{take};
 ghost use Rattle.pages.specs.Log.{encoded};
 ghost use Rattle.pages.specs.Pieces.{overwritten};
 ghost use Rattle.std.specs.Vec.{made, refused};

@@ -1,7 +1,7 @@
-// Which number answers a call whose buffer and page are both wrong, and that a refused read leaves its buffer.
+// Which number answers a wrong buffer, a wrong page and both at once, and that a refused call alters nothing.
 
-use crate::by_hand::answer;
-use crate::by_hand::page_of;
+use crate::helpers::answer;
+use crate::helpers::page_of;
 use pages::FlatPages;
 use pages::FlatStore;
 use pages::LogPages;
@@ -50,6 +50,25 @@ fn flat_store_refuses_by_length_first(rt: LibcRuntime) -> Result<(), Fail> {
 fn log_store_refuses_by_length_first(rt: LibcRuntime) -> Result<(), Fail> {
     let mut memory = [7; 270];
     refuses(&rt, &mut LogStore::new(&mut memory))
+}
+
+#[test]
+fn refused_write_does_not_compact_a_full_log() -> Result<(), Fail> {
+    let mut memory = [0; 4 * 66];
+    let mut store = LogStore::new(&mut memory);
+    for byte in 1..5 {
+        check_eq(answer(store.write(0, &page_of(byte))), 0)?;
+    }
+    check_eq(answer(store.write(0, &[9; 63])), 2)?;
+    check_eq(answer(store.write(2, &page_of(9))), 3)?;
+    check_eq(store.records(), 4)?;
+    for (slot, record) in memory.chunks_exact(66).enumerate() {
+        check_eq(
+            record.last().copied(),
+            Some(if slot < 4 { slot as u8 + 1 } else { 0 }),
+        )?;
+    }
+    Ok(())
 }
 
 #[test]
