@@ -8,8 +8,8 @@ use book::book_of;
 use book::change;
 use book::copy_book;
 use book::find;
-use book::in_words;
 use book::write_book;
+use cells::CELL_BYTES;
 use cells::cell;
 use cells::rows;
 use cells::text;
@@ -18,16 +18,18 @@ use pages::FlatStore;
 use pages::LogPages;
 use pages::LogStore;
 use pages::PAGE_BYTES;
-use pages::PageStore;
-use pages::StoreFault;
+use pages::SLOT_BYTES;
+use pages::StoreFaultDebug;
+use pages::StoreFaultDisplay;
+use pages::StoreFaultError;
 use std::alloc::Global;
 use std::error::AnyError;
 use std::fs;
 
-// Room for four pages; the log store has two slots of 66 bytes for each.
-const FLAT_BYTES: usize = 256;
+// Room for four pages; the log store has two slots for each.
+const FLAT_BYTES: usize = 4 * PAGE_BYTES;
 
-const LOG_BYTES: usize = 528;
+const LOG_BYTES: usize = 8 * SLOT_BYTES;
 
 fn main(rt: LibcRuntime) -> Result<(), AnyError> {
     rt.report(run(&rt))
@@ -40,7 +42,6 @@ fn run(rt: &LibcRuntime) -> Result<(), AnyError> {
     let mut flat = FlatStore::new(&mut flat_memory);
     let mut log_memory = [0; LOG_BYTES];
     let mut log = LogStore::new(&mut log_memory);
-
     fill(rt, &mut flat, &mut log, prices.as_str())?;
     for line in changes.as_str().lines() {
         apply(rt, &mut flat, &mut log, line)?;
@@ -56,21 +57,12 @@ fn fill(
     list: &str,
 ) -> Result<(), AnyError> {
     let bytes = rows(rt.alloc(), list)?;
-    match write_book(flat, bytes.as_slice()) {
-        Ok(pages) => println!(rt, "pages written to the flat store: {pages}")?,
-        Err(fault) => return Err(in_words(fault)),
-    }
-    accepted(copy_book(flat, log))?;
+    let pages = write_book(flat, bytes.as_slice())?;
+    println!(rt, "pages written to the flat store: {pages}")?;
+    copy_book(flat, log)?;
     let records = log.records();
     println!(rt, "copied to the log store: {records} records")?;
     Ok(())
-}
-
-fn accepted(answer: Result<(), StoreFault>) -> Result<(), AnyError> {
-    match answer {
-        Ok(()) => Ok(()),
-        Err(fault) => Err(in_words(fault)),
-    }
 }
 
 // Changes one price in both books, and says so where the log was compacted.
@@ -89,8 +81,8 @@ fn apply(
     };
     let new = cell(price)?;
     let before = log.records();
-    accepted(change(flat, row, &new))?;
-    accepted(change(log, row, &new))?;
+    change(flat, row, &new)?;
+    change(log, row, &new)?;
     let after = log.records();
     println!(rt, "{article} now {price}: {after} records")?;
     if after <= before {
@@ -122,9 +114,8 @@ fn compare(rt: &LibcRuntime, flat: &FlatStore<'_>, log: &LogStore<'_>) -> Result
 // The first four cells of a page, as text.
 fn first_cells(heap: Global, book: &[u8], page: usize) -> Result<String, AnyError> {
     let mut shown = String::new(heap);
-    for bytes in book.chunks_exact(8)
-        .skip(page.saturating_mul(PAGE_BYTES / 8))
-        .take(4) {
+    let skipped = page.saturating_mul(PAGE_BYTES / CELL_BYTES);
+    for bytes in book.chunks_exact(CELL_BYTES).skip(skipped).take(4) {
         if !shown.is_empty() {
             shown.push_str(" | ")?;
         }

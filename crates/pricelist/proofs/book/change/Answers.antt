@@ -1,7 +1,6 @@
-use mathlib.Core.Path.{_≡_, sym, _∙_, ap}
+use mathlib.Core.Path.{sym, _∙_, ap}
 use Prim.Native.Nat.{_+_, _-_, _*_, _%_}
 use native.Mathlib.Omega.{arith}
-use lib.ListN.{length}
 use Rattle.pages.specs.Pieces.{overwritten}
 use Rattle.pricelist.proofs.BookLaws.{change-made, price-put, price-length}
 use Rattle.pricelist.proofs.book.change.Needs as need
