@@ -30,7 +30,7 @@ abbrev pub after : Bool → Option ℕ → Option ℕ
 after here (Some k) = Some (suc k)
 after here None = cond here (Some 0) None
 
--- the place of a page's last record, if it has one (`IsLast`, below, says what that is)
+-- the place of a page's last record, if it has one (`Located`, below, says what that is)
 abbrev pub lastPlace : List Record → ℕ → Option ℕ
 lastPlace [] p = None
 lastPlace (r ∷ rs) p = after (eqb (r .page) p) (lastPlace rs p)
