@@ -3,7 +3,6 @@
 use crate::runs::Step::{Choose, Empty, Use};
 use crate::runs::{ALL, Step, follow};
 use eviction::{Notice, OldestUse, Policy};
-use std::test::Fail;
 
 const RUNS: [(&str, &[Step]); 8] = [
     (
@@ -107,11 +106,10 @@ const RUNS: [(&str, &[Step]); 8] = [
 ];
 
 #[test]
-fn oldest_use_goes_first(rt: HostRuntime) -> Result<(), Fail> {
+fn oldest_use_goes_first(rt: HostRuntime) {
     for (what, run) in RUNS {
-        follow(&rt, &mut OldestUse::new(), run).note(what)?;
+        follow(&rt, &mut OldestUse::new(), what, run);
     }
-    Ok(())
 }
 
 // More uses than a count of 16 bits has numbers: one that wrapped or stood still would lose the order on the way.

@@ -2,7 +2,6 @@
 
 use eviction::{Notice, Policy};
 use std::process::Abort;
-use std::test::Fail;
 
 // every place
 pub(crate) const ALL: u16 = 0xffff;
@@ -17,8 +16,8 @@ pub(crate) enum Step {
     Choose(u16, Option<u8>),
 }
 
-// Takes a policy through a run.
-pub(crate) fn follow<P: Policy>(rt: &impl Abort, policy: &mut P, run: &[Step]) -> Result<(), Fail> {
+// Takes a policy through a run; `what` names the run where an answer is another one.
+pub(crate) fn follow<P: Policy>(rt: &impl Abort, policy: &mut P, what: &str, run: &[Step]) {
     for step in run {
         match *step {
             Step::Use(places) => {
@@ -31,8 +30,9 @@ pub(crate) fn follow<P: Policy>(rt: &impl Abort, policy: &mut P, run: &[Step]) -
                     policy.tell(Notice::Emptied(*place));
                 }
             }
-            Step::Choose(among, expected) => assert_eq!(rt; policy.choose(among), expected),
+            Step::Choose(among, expected) => {
+                assert_eq!(rt; policy.choose(among), expected, "{what}");
+            }
         }
     }
-    Ok(())
 }

@@ -14,11 +14,11 @@ loop-place-preserved g c =
     let start = c.args.policy.now in
     let place = c.loop-place.place in
     let before = c.loop-place.policy in
-    let after = c.tell-if-member.new.policy in
+    let after = c.tell_if_member.new.policy in
     ⊎_elim
-    (λ m. emptied_more told (Member places) start place before after m (c.tell-if-member.ensures.member m) c.loop-place.invariant)
+    (λ m. emptied_more told (Member places) start place before after m (c.tell_if_member.ensures.member m) c.loop-place.invariant)
     (λ out.
-    subst (λ (q : g.row.P.Denot). ToldEmptied told start (Below (Member places) (place + 1)) q) (sym (c.tell-if-member.ensures.other out))
+    subst (λ (q : g.row.P.Denot). ToldEmptied told start (Below (Member places) (place + 1)) q) (sym (c.tell_if_member.ensures.other out))
     (emptied_skip told (Member places) start place before out c.loop-place.invariant))
     (member_or_not places place)
 

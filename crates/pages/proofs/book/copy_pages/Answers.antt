@@ -6,7 +6,7 @@ use Rattle.pages.proofs.book.copy_pages.Goals as goal
 
 pub loop-page-preserved : goal.loop-page-preserved
 loop-page-preserved g c =
-    let h = c.in-ok-read.ensures in
+    let h = c.in_ok-read.ensures in
     export_more c.loop-page.buffer c.read.new.buffer (g.S.PageStore.pages c.args.store.now) c.loop-page.page c.from-at.result
     c.from-at.ensures (omega arith) h.1 (c.read.auto.buffer ∙ h.0) h.2 c.loop-page.invariant
 

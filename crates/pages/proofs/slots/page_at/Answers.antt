@@ -6,4 +6,4 @@ pub returns : goal.returns
 returns c =
     let low = get_or-piece 66 c.args.slot 0 c.args.memory.now (omega arith) ∙ ap (λ i. get_or c.args.memory.now i 0) (add-zero (66 * c.args.slot)) in
     let high = get_or-piece 66 c.args.slot 1 c.args.memory.now (omega arith) in
-    c.from-le-bytes.ensures ∙ cc
+    c.from_le_bytes.ensures ∙ cc

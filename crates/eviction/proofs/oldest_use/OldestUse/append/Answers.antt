@@ -18,20 +18,17 @@ module _ (policy : OldestUse) (k : ℕ) (lt : k < 16) (absent : Has (order_of po
 pub bounds-self-self : goal.bounds-self-self
 bounds-self-self c = has_room c.args.self.now c.args.place c.requires.known c.requires.absent
 
-pub invariant-of-self : goal.invariant-of-self
-invariant-of-self c =
+pub invariant_of-self : goal.invariant_of-self
+invariant_of-self c =
     let policy = c.args.self.now in
     let k = c.args.place in
-    let e = sym (appended policy k c.requires.known c.requires.absent) in (
-      length-set policy.places policy.used k ∙ policy.wide,
-      (
-        omega (arith, has_room policy k c.requires.known c.requires.absent),
-        (
-          subst Known e (Known-push k (order_of policy) c.requires.known policy.known),
-          (subst Apart e (Apart-push k (order_of policy) c.requires.absent policy.apart), tt),
-        ),
-      ),
-    )
+    let e = sym (appended policy k c.requires.known c.requires.absent) in
+    record {
+      wide = length-set policy.places policy.used k ∙ policy.wide;
+      few = omega (arith, has_room policy k c.requires.known c.requires.absent);
+      known = subst Known e (Known-push k (order_of policy) c.requires.known policy.known);
+      apart = subst Apart e (Apart-push k (order_of policy) c.requires.absent policy.apart);
+    }
 
 pub returns : goal.returns
 returns c = appended c.args.self.now c.args.place c.requires.known c.requires.absent

@@ -11,9 +11,9 @@ takes policy among (Some k) first = (some_notices policy, λ notices since. long
 
 pub returns : goal.returns
 returns c =
-    let first = subst (λ order. FirstToGo order c.args.among c.first-to-go.result) c.order.ensures c.first-to-go.ensures.first in
+    let first = subst (λ order. FirstToGo order c.args.among c.first_to_go.result) c.order.ensures c.first_to_go.ensures.first in
     record {
-      member = c.first-to-go.ensures.member;
+      member = c.first_to_go.ensures.member;
       first = first;
-      longest_ago = takes c.args.self.now c.args.among c.first-to-go.result first;
+      longest_ago = takes c.args.self.now c.args.among c.first_to_go.result first;
     }

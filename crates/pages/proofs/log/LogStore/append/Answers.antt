@@ -5,48 +5,48 @@ use Rattle.pages.proofs.LogLaws.{log_length, log_laid, log_write, with_room_is, 
 use Rattle.pages.proofs.SlotLaws.{length-records_in}
 use Rattle.pages.proofs.log.LogStore.append.Goals as goal
 
-pub put-record-requires : goal.put-record-requires
-put-record-requires c =
-    let room = c.make-room.ensures.room (omega (arith, c.requires.there)) in
-    let size = c.make-room.ensures.memory.size in
+pub put_record-requires : goal.put_record-requires
+put_record-requires c =
+    let room = c.make_room.ensures.room (omega (arith, c.requires.there)) in
+    let size = c.make_room.ensures.memory.size in
     record { fits = omega arith; wide = c.requires.fits }
 
 pub bounds-last-from : goal.bounds-last-from
 bounds-last-from c = omega (arith, c.requires.there, log_length c.args.self.now.filled c.args.self.now.memory.now)
 
-pub invariant-of-self : goal.invariant-of-self
-invariant-of-self c =
+pub invariant_of-self : goal.invariant_of-self
+invariant_of-self c =
     let inside : c.args.page < log_count (length c.args.self.now.memory.now) =
     omega (arith, c.requires.there, log_length c.args.self.now.filled c.args.self.now.memory.now) in
-    let room = c.make-room.ensures.room (omega (arith, c.requires.there)) in
-    let size = c.make-room.ensures.memory.size in
-    let k = put_kept c.make-room.new.self.memory.now c.make-room.new.self.filled c.make-room.new.self.last
+    let room = c.make_room.ensures.room (omega (arith, c.requires.there)) in
+    let size = c.make_room.ensures.memory.size in
+    let k = put_kept c.make_room.new.self.memory.now c.make_room.new.self.filled c.make_room.new.self.last
     (record { page = c.args.page; bytes = c.args.bytes.now }) c.requires.fits (omega arith)
-    c.put-record.new.memory c.from.result c.put-record.ensures c.from.ensures (omega arith)
-    c.make-room.new.self.wide c.make-room.new.self.exact c.make-room.new.self.known c.make-room.new.self.indexed in
-    (k.0, (k.1, (k.2, (k.3, (k.4, tt)))))
+    c.put_record.new.memory c.from.result c.put_record.ensures c.from.ensures (omega arith)
+    c.make_room.new.self.wide c.make_room.new.self.exact c.make_room.new.self.known c.make_room.new.self.indexed in
+    record { few = k.0; wide = k.1; exact = k.2; known = k.3; indexed = k.4 }
 
 pub returns : goal.returns
 returns c =
     let inside : c.args.page < log_count (length c.args.self.now.memory.now) =
     omega (arith, c.requires.there, log_length c.args.self.now.filled c.args.self.now.memory.now) in
-    let left = c.make-room.ensures.room (omega (arith, c.requires.there)) in
-    let room : c.make-room.new.self.filled < slots_in (length c.make-room.new.self.memory.now) = omega (arith, c.make-room.ensures.memory.size) in
+    let left = c.make_room.ensures.room (omega (arith, c.requires.there)) in
+    let room : c.make_room.new.self.filled < slots_in (length c.make_room.new.self.memory.now) = omega (arith, c.make_room.ensures.memory.size) in
     let r : Record = record { page = c.args.page; bytes = c.args.bytes.now } in
-    let size : length c.put-record.new.memory ≡ length c.args.self.now.memory.now =
-    ap length c.put-record.ensures ∙ put_length c.make-room.new.self.memory.now c.make-room.new.self.filled c.make-room.new.self.last r c.requires.fits room
-    ∙ c.make-room.ensures.memory.size in
+    let size : length c.put_record.new.memory ≡ length c.args.self.now.memory.now =
+    ap length c.put_record.ensures ∙ put_length c.make_room.new.self.memory.now c.make_room.new.self.filled c.make_room.new.self.last r c.requires.fits room
+    ∙ c.make_room.ensures.memory.size in
     let appended =
-    ap (records_in (c.make-room.new.self.filled + 1)) c.put-record.ensures
-    ∙ put_records c.make-room.new.self.memory.now c.make-room.new.self.filled c.make-room.new.self.last r c.requires.fits room
-    ∙ ap (λ rs. rs ++ r ∷ []) c.make-room.ensures.records in
-    let k = put_kept c.make-room.new.self.memory.now c.make-room.new.self.filled c.make-room.new.self.last r c.requires.fits room
-    c.put-record.new.memory c.from.result c.put-record.ensures c.from.ensures (omega (arith, c.make-room.ensures.memory.size))
-    c.make-room.new.self.wide c.make-room.new.self.exact c.make-room.new.self.known c.make-room.new.self.indexed in
+    ap (records_in (c.make_room.new.self.filled + 1)) c.put_record.ensures
+    ∙ put_records c.make_room.new.self.memory.now c.make_room.new.self.filled c.make_room.new.self.last r c.requires.fits room
+    ∙ ap (λ rs. rs ++ r ∷ []) c.make_room.ensures.records in
+    let k = put_kept c.make_room.new.self.memory.now c.make_room.new.self.filled c.make_room.new.self.last r c.requires.fits room
+    c.put_record.new.memory c.from.result c.put_record.ensures c.from.ensures (omega (arith, c.make_room.ensures.memory.size))
+    c.make_room.new.self.wide c.make_room.new.self.exact c.make_room.new.self.known c.make_room.new.self.indexed in
     record {
       pages =
-          log_write (slots_in (length c.args.self.now.memory.now)) c.args.self.now.filled (c.make-room.new.self.filled + 1) c.args.self.now.memory.now
-          c.put-record.new.memory r size inside appended;
+          log_write (slots_in (length c.args.self.now.memory.now)) c.args.self.now.filled (c.make_room.new.self.filled + 1) c.args.self.now.memory.now
+          c.put_record.new.memory r size inside appended;
       records = (
         (
           with_room (slots_in (length c.args.self.now.memory.now)) (records_in c.args.self.now.filled c.args.self.now.memory.now),
@@ -54,14 +54,14 @@ returns c =
               (omega (arith, c.args.self.now.few, length-records_in c.args.self.now.filled c.args.self.now.memory.now)),
           appended,
         ),
-        log_laid (c.make-room.new.self.filled + 1) c.put-record.new.memory k.2,
+        log_laid (c.make_room.new.self.filled + 1) c.put_record.new.memory k.2,
       );
       memory = record {
-        lent = c.make-room.ensures.memory.lent;
+        lent = c.make_room.ensures.memory.lent;
         size = size;
         past =
-            ap past_last_slot c.put-record.ensures
-            ∙ put_past c.make-room.new.self.memory.now c.make-room.new.self.filled c.make-room.new.self.last r c.requires.fits room
-            ∙ c.make-room.ensures.memory.past;
+            ap past_last_slot c.put_record.ensures
+            ∙ put_past c.make_room.new.self.memory.now c.make_room.new.self.filled c.make_room.new.self.last r c.requires.fits room
+            ∙ c.make_room.ensures.memory.past;
       };
     }

@@ -3,8 +3,8 @@ use Rattle.pages.specs.Log.{slots_in, log_count, Known}
 use Rattle.pages.proofs.LogLaws.{log_length, room_left, room_made, compact_few, compact_known}
 use Rattle.pages.proofs.log.LogStore.make_room.Goals as goal
 
-pub returns-then-self-slots-in : goal.returns-then-self-slots-in
-returns-then-self-slots-in c =
+pub returns-then-self-slots_in : goal.returns-then-self-slots_in
+returns-then-self-slots_in c =
     let lt : c.args.self.now.filled < slots_in (length c.args.self.now.memory.now) = omega arith in
     record {
       records = room_left (slots_in (length c.args.self.now.memory.now)) c.args.self.now.filled c.args.self.now.memory.now lt;
@@ -21,26 +21,22 @@ compact-requires c = record {
   indexed = c.args.self.now.indexed;
 }
 
-pub invariant-of-self : goal.invariant-of-self
-invariant-of-self c =
+pub invariant_of-self : goal.invariant_of-self
+invariant_of-self c =
     let few : c.compact.result ≤ log_count (length c.args.self.now.memory.now) =
     compact_few (log_count (length c.args.self.now.memory.now)) c.args.self.now.filled c.compact.result c.args.self.now.memory.now c.compact.new.memory
     c.args.self.now.known c.compact.ensures.records in
-    let size : length c.compact.new.memory ≡ length c.args.self.now.memory.now = c.compact.auto.memory in (
-      omega arith,
-      (
-        c.compact.auto.last ∙ c.args.self.now.wide,
-        (
-          c.compact.ensures.exact,
-          (
-            subst (λ n. Known (log_count n) c.compact.result c.compact.new.memory) (sym size)
-                (compact_known (log_count (length c.args.self.now.memory.now)) c.args.self.now.filled c.compact.result c.args.self.now.memory.now c.compact.new.memory
-                c.args.self.now.known c.compact.ensures.records),
-            (c.compact.ensures.indexed, tt),
-          ),
-        ),
-      ),
-    )
+    let size : length c.compact.new.memory ≡ length c.args.self.now.memory.now = c.compact.auto.memory in
+    record {
+      few = omega arith;
+      wide = c.compact.auto.last ∙ c.args.self.now.wide;
+      exact = c.compact.ensures.exact;
+      known =
+          subst (λ n. Known (log_count n) c.compact.result c.compact.new.memory) (sym size)
+          (compact_known (log_count (length c.args.self.now.memory.now)) c.args.self.now.filled c.compact.result c.args.self.now.memory.now c.compact.new.memory
+          c.args.self.now.known c.compact.ensures.records);
+      indexed = c.compact.ensures.indexed;
+    }
 
 pub returns : goal.returns
 returns c =
