@@ -1,6 +1,6 @@
 -- The order of last use says how long ago each place was used, so the member that goes first by it was used longest ago.
 use Rattle.std.proofs.Common.{◌≡◌, ℕ, zero, suc, ◌+◌, ◌<◌, ◌≤◌, true, eqb, ltb, List, [], ◌∷◌, ◌++◌, length, get_or, take, is_some, Some, None, Option, sym, refl, ap, ◌∙◌, subst, ⊎_elim, add-one, arith}
-use Rattle.std.specs.List.{ContainsAt as Has, AllByRecursion as All}
+use Rattle.std.specs.List.{ContainsAt, AllByRecursion}
 use Rattle.std.proofs.lemmas.Nat.{shr_le}
 use Rattle.std.proofs.ByRecursion.{All-from_get_or, all-has, all_kept_by, All-push, All-weaker, has_append_left, has_push}
 use Rattle.std.proofs.lemmas.List.{get_or-take, length-take-le, take_more, take-take}
@@ -34,10 +34,10 @@ Leads age k j = Ahead k (age k) j (age j)
 
 -- The order has the places that are in use, by their age.
 record Tracks (age : ℕ → Option ℕ) (order : List ℕ) : Type 0 where
-  places : All (λ k. k < 16) order
-  used : All (InUse age) order
+  places : AllByRecursion (λ k. k < 16) order
+  used : AllByRecursion (InUse age) order
   falling : Pairs (Leads age) order
-  whole : (k : ℕ) → k < 16 → InUse age k → Has order k
+  whole : (k : ℕ) → k < 16 → InUse age k → ContainsAt order k
 
 Ahead-later : (k : ℕ) (a : Option ℕ) (j : ℕ) (b : Option ℕ) → Ahead k a j b → Ahead k (later a) j (later b)
 Ahead-later k None j None s = s
@@ -59,18 +59,18 @@ ahead_of_now k (Some a) j u = omega arith
 
 -- One notice of place j: every other place is one notice older.
 module _ (age age' : ℕ → Option ℕ) (j : ℕ) (older : (k : ℕ) → Other k j → age' k ≡ later (age k)) where
-  still_used : (xs : List ℕ) → All (λ k. Other k j) xs → All (InUse age) xs → All (InUse age') xs
+  still_used : (xs : List ℕ) → AllByRecursion (λ k. Other k j) xs → AllByRecursion (InUse age) xs → AllByRecursion (InUse age') xs
   still_used [] o u = tt
   still_used (x ∷ xs) (o, os) (u, us) = (ap is_some (older x o) ∙ used_later (age x) u, still_used xs os us)
 
-  still_ahead : (x : ℕ) (xs : List ℕ) → Other x j → All (λ k. Other k j) xs → All (Leads age x) xs → All (Leads age' x) xs
+  still_ahead : (x : ℕ) (xs : List ℕ) → Other x j → AllByRecursion (λ k. Other k j) xs → AllByRecursion (Leads age x) xs → AllByRecursion (Leads age' x) xs
   still_ahead x [] o os s = tt
   still_ahead x (k ∷ xs) o (p, os) (s, ss) = (
     subst (λ a. Ahead x a k (age' k)) (sym (older x o)) (subst (λ a. Ahead x (later (age x)) k a) (sym (older k p)) (Ahead-later x (age x) k (age k) s)),
     still_ahead x xs o os ss,
   )
 
-  still_falling : (xs : List ℕ) → All (λ k. Other k j) xs → Pairs (Leads age) xs → Pairs (Leads age') xs
+  still_falling : (xs : List ℕ) → AllByRecursion (λ k. Other k j) xs → Pairs (Leads age) xs → Pairs (Leads age') xs
   still_falling [] o p = tt
   still_falling (x ∷ xs) (o, os) (s, p) = (still_ahead x xs o os s, still_falling xs os p)
 
@@ -100,10 +100,10 @@ module _ (age age' : ℕ → Option ℕ) (j : ℕ) (older : (k : ℕ) → Other 
             (still_falling left others (Pairs-filter (Leads age) _ order t.falling))
             (newest left others used);
         whole = λ k l u.
-            ⊎_elim (λ e. subst (Has (left ++ j ∷ [])) (sym e) (has_push left j)) (λ o. has_append_left left (j ∷ []) k (has_without k j order o (t.whole k l (used_then k o u)))) (cases_eq k j);
+            ⊎_elim (λ e. subst (ContainsAt (left ++ j ∷ [])) (sym e) (has_push left j)) (λ o. has_append_left left (j ∷ []) k (has_without k j order o (t.whole k l (used_then k o u)))) (cases_eq k j);
       }
     where
-      newest : (xs : List ℕ) → All (λ k. Other k j) xs → All (InUse age) xs → All (λ k. Leads age' k j) xs
+      newest : (xs : List ℕ) → AllByRecursion (λ k. Other k j) xs → AllByRecursion (InUse age) xs → AllByRecursion (λ k. Leads age' k j) xs
       newest [] o u = tt
       newest (x ∷ xs) (o, os) (u, us) = (
         subst (λ a. Ahead x a j (age' j)) (sym (older x o)) (subst (λ a. Ahead x (later (age x)) j a) (sym now) (ahead_of_now x (age x) j u)),
@@ -141,14 +141,14 @@ tracks (Emptied j ∷ ns) =
 
 -- a member that is not in the order was not used, and one that was not used is not in the order
 module _ (age : ℕ → Option ℕ) (order : List ℕ) (t : Tracks age order) where
-  not_used : (k : ℕ) → k < 16 → (Has order k → ⊥) → age k ≡ None
+  not_used : (k : ℕ) → k < 16 → (ContainsAt order k → ⊥) → age k ≡ None
   not_used k l absent = go (age k) refl
     where
       go : (a : Option ℕ) → age k ≡ a → a ≡ None
       go None e = refl
       go (Some n) e = absurd (absent (t.whole k l (ap is_some e)))
 
-  not_there : (k : ℕ) → age k ≡ None → Has order k → ⊥
+  not_there : (k : ℕ) → age k ≡ None → ContainsAt order k → ⊥
   not_there k e h = false≢true (sym (ap is_some e) ∙ all-has (InUse age) order k t.used h)
 
   -- the lowest of those that were not used
@@ -165,7 +165,7 @@ module _ (age : ℕ → Option ℕ) (order : List ℕ) (t : Tracks age order) wh
       → (j : ℕ) → Member among j → Other j (get_or order i 0) → Leads age (get_or order i 0) j
   oldest_goes among i none ((l, m), before) j n apart = go (age j) refl
     where
-      behind : Has order j → Leads age (get_or order i 0) j
+      behind : ContainsAt order j → Leads age (get_or order i 0) j
       behind (h, lh, at) =
           ⊎_elim
           (λ e. absurd (apart (sym (at 0) ∙ ap (λ x. get_or order x 0) e)))
@@ -196,7 +196,7 @@ longest_ago ns policy among k heard first =
 next_used : (xs : List ℕ) → Known xs → Apart xs → (n : ℕ) → n < length xs → take (n + 1) xs ≡ order_after (Used (get_or xs n 0)) (take n xs)
 next_used xs known apart n l =
     let k : ℕ = get_or xs n 0 in
-    let new : All (λ j. Other j k) (take n xs) =
+    let new : AllByRecursion (λ j. Other j k) (take n xs) =
     All-from_get_or (λ j. Other j k) (take n xs) 0 (λ i il.
     let lt : i < n = omega (arith, length-take-le n xs (omega arith)) in
     λ e. apart i n lt l (sym (get_or-take n xs i 0 lt) ∙ e)) in

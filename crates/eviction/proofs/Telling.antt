@@ -1,7 +1,7 @@
 -- Notices given one after the other, and the emptied places of a set told in turn.
 use Rattle.std.proofs.Common.{◌≡◌, ℕ, ◌+◌, ◌/◌, ◌%◌, ◌^◌, ◌<◌, ◌⊎◌, List, [], ◌∷◌, ◌++◌, map, length, get_or, sym, refl, subst, inl, inr, ⊎_elim, arith}
 use Rattle.std.specs.List.Sorted.{IsStrictlyIncreasing}
-use Rattle.std.specs.List.{ContainsAt as Has, AllByRecursion as All}
+use Rattle.std.specs.List.{ContainsAt, AllByRecursion}
 use Rattle.std.proofs.ByRecursion.{All-get_or, All-push, All-weaker, has_append_left, has_push}
 use Rattle.std.proofs.lemmas.List.{get_or_append_left, get_or_push, length_push, map_push}
 use Rattle.std.proofs.lemmas.Bool.{cases_lt, cases_eq}
@@ -17,7 +17,7 @@ told_push told p m q [] n e t = (q, subst (λ x. told x n q) e t, refl)
 told_push told p m q (k ∷ ns) n (l, h, r) t = (l, h, told_push told l m q ns n r t)
 
 -- one number more at the end of numbers that rise
-IsStrictlyIncreasing-push : (ks : List ℕ) (n : ℕ) → IsStrictlyIncreasing ks → All (λ k. k < n) ks → IsStrictlyIncreasing (ks ++ n ∷ [])
+IsStrictlyIncreasing-push : (ks : List ℕ) (n : ℕ) → IsStrictlyIncreasing ks → AllByRecursion (λ k. k < n) ks → IsStrictlyIncreasing (ks ++ n ∷ [])
 IsStrictlyIncreasing-push ks n up below i l =
     ⊎_elim
     (λ lt.
@@ -43,7 +43,7 @@ InTurn-push P n ks holds t = record {
   rising = IsStrictlyIncreasing-push ks n t.rising (All-weaker (Below P n) (λ k. k < n) (λ k b. b.1) ks t.each);
   each = All-push (Below P (n + 1)) ks n (All-weaker (Below P n) (Below P (n + 1)) (λ k b. (b.0, omega (arith, b.1))) ks t.each) (holds, omega arith);
   whole = λ k b.
-      ⊎_elim (λ e. subst (Has (ks ++ n ∷ [])) (sym e) (has_push ks n))
+      ⊎_elim (λ e. subst (ContainsAt (ks ++ n ∷ [])) (sym e) (has_push ks n))
       (λ apart. has_append_left ks (n ∷ []) k (t.whole k (b.0, omega (arith, b.1, apart)))) (cases_eq k n);
 }
 

@@ -1,6 +1,6 @@
 -- An order of places, as a list of their numbers.
 use Rattle.std.specs.Prelude.{◌≡◌, ℕ, ◌<◌, not, ◌⊎◌, List, length, Some, None, filter, Option, ◌==◌, ◌≢◌, slice_index}
-use Rattle.std.specs.List.{ContainsAt as Has}
+use Rattle.std.specs.List.{ContainsAt}
 use Rattle.eviction.specs.Places.{Member, Empty}
 
 -- Each number is a place.
@@ -17,7 +17,7 @@ without k order = filter (λ j. not (j == k)) order
 
 -- Place k is a member that is not in the order.
 abbrev pub Fresh : List ℕ → ℕ → ℕ → Type 0
-Fresh order among k = Member among k × (Has order k → ⊥)
+Fresh order among k = Member among k × (ContainsAt order k → ⊥)
 
 -- A member stands at i in the order.
 abbrev pub MemberAt : List ℕ → ℕ → ℕ → Type 0

@@ -1,5 +1,6 @@
 // Eviction policies: which of its sixteen places a cache gives up.
 // Every choice is a member of the set that was asked for; the policies here also promise which one, and what they then keep.
+#![tactic(auto)]
 
 mod clock;
 mod either;

@@ -1,12 +1,12 @@
 -- A compacted log has the last record of each page, in their order, and no other.
 use Rattle.std.proofs.Common.{◌≡◌, ℕ, zero, suc, ◌<◌, eqb, List, [], ◌∷◌, map, length, Some, None, Option, sym, refl, ap, ◌∙◌, arith}
-use Rattle.std.specs.List.{ContainsAt as Has, AllByRecursion as All}
+use Rattle.std.specs.List.{ContainsAt, AllByRecursion}
 use Rattle.std.proofs.lemmas.Bool.{eq-eqb}
 use Rattle.pages.specs.Records.{Record, record_at, after, last_place, unless_later, compacted, IsLast, Rising, LastOfEach}
 use Rattle.pages.proofs.RecordLaws.{last_place_is, is_last_later}
 
 -- places one further on
-above_later : (k : ℕ) (ps : List ℕ) → All (λ j. k < j) ps → All (λ j. suc k < j) (map suc ps)
+above_later : (k : ℕ) (ps : List ℕ) → AllByRecursion (λ j. k < j) ps → AllByRecursion (λ j. suc k < j) (map suc ps)
 above_later k [] all = tt
 above_later k (p ∷ ps) (lt, all) = (omega arith, above_later k ps all)
 
@@ -14,12 +14,12 @@ rising_later : (ps : List ℕ) → Rising ps → Rising (map suc ps)
 rising_later [] rising = tt
 rising_later (p ∷ ps) (all, rising) = (above_later p ps all, rising_later ps rising)
 
-above_zero : (ps : List ℕ) → All (λ j. 0 < j) (map suc ps)
+above_zero : (ps : List ℕ) → AllByRecursion (λ j. 0 < j) (map suc ps)
 above_zero [] = tt
 above_zero (p ∷ ps) = (omega arith, above_zero ps)
 
-last_later : (r : Record) (rs : List Record) (ps : List ℕ) → All (λ k. IsLast rs (record_at rs k).page k) ps
-    → All (λ k. IsLast (r ∷ rs) (record_at (r ∷ rs) k).page k) (map suc ps)
+last_later : (r : Record) (rs : List Record) (ps : List ℕ) → AllByRecursion (λ k. IsLast rs (record_at rs k).page k) ps
+    → AllByRecursion (λ k. IsLast (r ∷ rs) (record_at (r ∷ rs) k).page k) (map suc ps)
 last_later r rs [] all = tt
 last_later r rs (p ∷ ps) (last, all) = (is_last_later r rs (record_at rs p).page p last, last_later r rs ps all)
 
@@ -27,13 +27,13 @@ same_records : (r : Record) (rs : List Record) (ps : List ℕ) → map (record_a
 same_records r rs [] = refl
 same_records r rs (p ∷ ps) = ap (λ l. record_at rs p ∷ l) (same_records r rs ps)
 
-has_here : (k : ℕ) (ps : List ℕ) → Has (k ∷ ps) k
+has_here : (k : ℕ) (ps : List ℕ) → ContainsAt (k ∷ ps) k
 has_here k ps = (0, omega arith, λ d. refl)
 
-has_next : (j k : ℕ) (ps : List ℕ) → Has ps k → Has (j ∷ ps) k
+has_next : (j k : ℕ) (ps : List ℕ) → ContainsAt ps k → ContainsAt (j ∷ ps) k
 has_next j k ps (i, lt, at) = (suc i, omega arith, at)
 
-has_later : (k : ℕ) (ps : List ℕ) → Has ps k → Has (map suc ps) (suc k)
+has_later : (k : ℕ) (ps : List ℕ) → ContainsAt ps k → ContainsAt (map suc ps) (suc k)
 has_later k [] (i, lt, at) = absurd (let z : ⊥ = omega arith in z)
 has_later k (p ∷ ps) (zero, lt, at) = (0, omega arith, λ d. ap suc (at d))
 has_later k (p ∷ ps) (suc i, lt, at) = has_next (suc p) (suc k) (map suc ps) (has_later k ps (i, omega arith, at))
@@ -49,7 +49,7 @@ compacted_last (r ∷ rs) = keep (last_place rs r.page) refl (compacted_last rs)
     keep : (o : Option ℕ) → last_place rs r.page ≡ o → LastOfEach rs (compacted rs) → LastOfEach (r ∷ rs) (unless_later o r (compacted rs))
     keep (Some m) e (ps, rising, last, all, is) = (map suc ps, rising_later ps rising, last_later r rs ps last, whole, is ∙ sym (same_records r rs ps))
       where
-        whole : (k : ℕ) → IsLast (r ∷ rs) (record_at (r ∷ rs) k).page k → Has (map suc ps) k
+        whole : (k : ℕ) → IsLast (r ∷ rs) (record_at (r ∷ rs) k).page k → ContainsAt (map suc ps) k
         whole zero here =
             let later = last_place_is rs r.page m e in
             absurd (here.2 (suc m) (omega arith) (let lt : m < length rs = later.0 in let z : suc m < length (r ∷ rs) = omega arith in z) later.1)
@@ -65,6 +65,6 @@ compacted_last (r ∷ rs) = keep (last_place rs r.page) refl (compacted_last rs)
         first : last_place (r ∷ rs) r.page ≡ Some 0
         first = ap (after (eqb r.page r.page)) e ∙ ap (λ b. after b None) (eq-eqb r.page r.page refl)
 
-        whole : (k : ℕ) → IsLast (r ∷ rs) (record_at (r ∷ rs) k).page k → Has (0 ∷ map suc ps) k
+        whole : (k : ℕ) → IsLast (r ∷ rs) (record_at (r ∷ rs) k).page k → ContainsAt (0 ∷ map suc ps) k
         whole zero here = has_here 0 (map suc ps)
         whole (suc k) here = has_next 0 (suc k) (map suc ps) (has_later k ps (all k (last_earlier r rs (record_at rs k).page k here)))

@@ -1,6 +1,6 @@
 -- The log store's pages by its filled slots: what they are, and what an append and a compaction leave.
 use Rattle.std.proofs.Common.{◌≡◌, ℕ, ◌+◌, ◌-◌, ◌*◌, ◌<◌, ◌≤◌, Bool, true, false, cond, eqb, List, [], ◌∷◌, ◌++◌, length, get_or, take, drop, set, Some, None, Option, sym, refl, ap, ◌∙◌, subst, inl, inr, ⊎_elim, zero-add, arith}
-use Rattle.std.specs.List.{AllByRecursion as All}
+use Rattle.std.specs.List.{AllByRecursion}
 use Rattle.std.proofs.lemmas.List.FromFn.{length-map-range_with_len, get_or-map-range_with_len}
 use Rattle.std.proofs.ByRecursion.{All-from_get_or}
 use Rattle.std.proofs.lemmas.List.{ext_get_or, length-drop, length-set, get_or-set_same, get_or-set_other}
@@ -168,7 +168,7 @@ module _ (count filled kept : ℕ) (memory memory' : List ℕ) (known : Known co
   pub compact_known : Known count kept memory'
   compact_known =
       Known-from_All count kept memory'
-      (subst (All (λ (r : Record). r.page < count)) (sym moved)
+      (subst (AllByRecursion (λ (r : Record). r.page < count)) (sym moved)
       (All-compacted (λ (r : Record). r.page < count) (records_in filled memory) (All-from_Known count filled memory known)))
 
 -- where the index leads is the page's content

@@ -1,6 +1,6 @@
 -- A compacted log has at most one record for each page: it is as long as there are pages with a record.
-use Rattle.std.proofs.Common.{◌≡◌, ℕ, zero, suc, ◌+◌, ◌<◌, ◌≤◌, Bool, true, false, ◌⊎◌, List, [], ◌∷◌, length, is_some, Some, None, Option, sym, refl, ap, ◌∙◌, ⊎_elim, arith}
-use Rattle.std.specs.List.{AllByRecursion as All}
+use Rattle.std.proofs.Common.{◌≡◌, ℕ, zero, suc, ◌+◌, ◌<◌, ◌≤◌, Bool, true, false, List, [], ◌∷◌, length, is_some, Some, None, Option, sym, refl, ap, ◌∙◌, ⊎_elim, arith}
+use Rattle.std.specs.List.{AllByRecursion}
 use Rattle.std.proofs.lemmas.Bool.{ne_eqb, eq-eqb, cases_eq}
 use Rattle.pages.specs.Records.{Record, after, last_place, unless_later, compacted}
 
@@ -74,7 +74,7 @@ has_own r rs =
     pick None = refl
     pick (Some k) = refl
 
-length-compacted : (n : ℕ) (rs : List Record) → All (λ r. r.page < n) rs → length (compacted rs) ≡ how_many (has rs) n
+length-compacted : (n : ℕ) (rs : List Record) → AllByRecursion (λ r. r.page < n) rs → length (compacted rs) ≡ how_many (has rs) n
 unfolding has
 length-compacted n [] a = sym (how_many_none n)
 length-compacted n (r ∷ rs) (lt, a) = keep (last_place rs r.page) refl (length-compacted n rs a)
@@ -88,5 +88,5 @@ length-compacted n (r ∷ rs) (lt, a) = keep (last_place rs r.page) refl (length
         ap suc ih ∙ sym (how_many_more (has rs) (has (r ∷ rs)) r.page n lt (ap is_some e) (has_own r rs)
         (λ q apart. has_other r rs q (λ s. apart (sym s))))
 
-pub compacted_few : (n : ℕ) (rs : List Record) → All (λ r. r.page < n) rs → length (compacted rs) ≤ n
+pub compacted_few : (n : ℕ) (rs : List Record) → AllByRecursion (λ r. r.page < n) rs → length (compacted rs) ≤ n
 compacted_few n rs a = omega (arith, length-compacted n rs a, how_many_le (has rs) n)

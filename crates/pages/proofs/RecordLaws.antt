@@ -1,6 +1,6 @@
 -- Laws of records: where a page's last record stands, what one more record changes, and what compaction keeps.
-use Rattle.std.proofs.Common.{◌≡◌, ℕ, zero, suc, ◌+◌, ◌<◌, Bool, true, false, cond, eqb, ◌⊎◌, List, [], ◌∷◌, ◌++◌, length, Some, None, Option, sym, refl, ap, ◌∙◌, subst, inl, inr, ⊎_elim, arith}
-use Rattle.std.specs.List.{AllByRecursion as All}
+use Rattle.std.proofs.Common.{◌≡◌, ℕ, zero, suc, ◌<◌, Bool, true, false, cond, eqb, ◌⊎◌, List, [], ◌∷◌, ◌++◌, length, Some, None, Option, sym, refl, ap, ◌∙◌, subst, inl, inr, ⊎_elim, arith}
+use Rattle.std.specs.List.{AllByRecursion}
 use Rattle.std.proofs.lemmas.List.{get_or_push, get_or_append_left}
 use Rattle.std.proofs.lemmas.Bool.{eqb-true, eqb-false, ne_eqb, cases_Bool}
 use Rattle.pages.specs.Records.{Record, blank, record_at, after, last_place, bytes_at, content, unless_later, compacted, IsLast, Content, Located}
@@ -173,10 +173,10 @@ content-compacted (r ∷ rs) p = keep (last_place rs r.page) refl (content-compa
         content_later r (compacted rs) p t.0 t.1 ∙ ih ∙ sym (content_later r rs p s.0 s.1))
         (either (last_place rs p))
 
-pub All-compacted : (P : Record → Type 0) (rs : List Record) → All P rs → All P (compacted rs)
+pub All-compacted : (P : Record → Type 0) (rs : List Record) → AllByRecursion P rs → AllByRecursion P (compacted rs)
 All-compacted P [] a = a
 All-compacted P (r ∷ rs) (x, a) = keep (last_place rs r.page) (All-compacted P rs a)
   where
-    keep : (o : Option ℕ) → All P (compacted rs) → All P (unless_later o r (compacted rs))
+    keep : (o : Option ℕ) → AllByRecursion P (compacted rs) → AllByRecursion P (unless_later o r (compacted rs))
     keep (Some m) rest = rest
     keep None rest = (x, rest)

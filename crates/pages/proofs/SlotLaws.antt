@@ -1,7 +1,7 @@
 -- Records by their slots: what the filled slots hold, and what a write to the next slot adds.
 use Rattle.std.proofs.Common.{◌≡◌, ℕ, zero, suc, ◌+◌, ◌-◌, ◌*◌, ◌<◌, ◌≤◌, List, [], ◌∷◌, ◌++◌, map, length, get_or, take, drop, sym, refl, ap, ◌∙◌, subst, ⊎_elim, zero-add, arith, take-add}
 use lib.Seq.{paste}
-use Rattle.std.specs.List.{flat_map, AllByRecursion as All}
+use Rattle.std.specs.List.{flat_map, AllByRecursion}
 use Rattle.std.proofs.lemmas.List.FromFn.{map-range_with_len_more}
 use Rattle.std.proofs.ByRecursion.{All-from_get_or, All-get_or}
 use Rattle.std.proofs.lemmas.List.{length-map, map_push, get_or-map, flat_map_more, append_assoc, drop-drop, drop-take}
@@ -82,14 +82,14 @@ slot_moved from to memory fits =
     ∙ append_assoc (take (66 * to) memory) (piece 66 memory from) (drop (66 * to + 66) memory)
     ∙ ap (λ k. take (66 * to) memory ++ (piece 66 memory from ++ drop (66 * to + k) memory)) (sym (length-piece 66 from memory fits))
 
-pub All-from_Known : (count n : ℕ) (memory : List ℕ) → Known count n memory → All (λ (r : Record). r.page < count) (records_in n memory)
+pub All-from_Known : (count n : ℕ) (memory : List ℕ) → Known count n memory → AllByRecursion (λ (r : Record). r.page < count) (records_in n memory)
 All-from_Known count n memory known =
     All-from_get_or (λ (r : Record). r.page < count) (records_in n memory) (record { page = 0; bytes = blank })
     (λ k lt.
     let l : k < n = omega (arith, length-records_in n memory) in
     subst (λ (r : Record). r.page < count) (sym (get_or-records_in n k memory (record { page = 0; bytes = blank }) l)) (known k l))
 
-pub Known-from_All : (count n : ℕ) (memory : List ℕ) → All (λ (r : Record). r.page < count) (records_in n memory) → Known count n memory
+pub Known-from_All : (count n : ℕ) (memory : List ℕ) → AllByRecursion (λ (r : Record). r.page < count) (records_in n memory) → Known count n memory
 Known-from_All count n memory all k lt =
     subst (λ (r : Record). r.page < count) (get_or-records_in n k memory (record { page = 0; bytes = blank }) lt)
     (All-get_or (λ (r : Record). r.page < count) (records_in n memory) k (record { page = 0; bytes = blank }) (omega (arith, length-records_in n memory)) all)

@@ -1,6 +1,6 @@
 -- Records of page writes, in the order in which they came: a page's last record is its content.
 use Rattle.std.specs.Prelude.{◌≡◌, ℕ, suc, ◌<◌, Bool, cond, ◌⊎◌, List, [], ◌∷◌, map, length, replicate, Some, None, Option, ◌==◌, ◌≢◌, slice_index_or}
-use Rattle.std.specs.List.{range_with_len, ContainsAt as Has, AllByRecursion as All}
+use Rattle.std.specs.List.{range_with_len, ContainsAt, AllByRecursion}
 use Rattle.pages.specs.Store.{Page}
 
 -- a page number, and the bytes that were written to that page
@@ -62,14 +62,14 @@ Unwritten records p = (j : ℕ) → j < length records → (record_at records j)
 -- from lower to higher numbers
 abbrev pub Rising : List ℕ → Type 0
 Rising [] = Unit {0}
-Rising (k ∷ ks) = All (λ j. k < j) ks × Rising ks
+Rising (k ∷ ks) = AllByRecursion (λ j. k < j) ks × Rising ks
 
 -- These are the last records of their pages, one for each page that has a record, in their order.
 abbrev pub LastOfEach : List Record → List Record → Type 0
 LastOfEach records kept =
     (places : List ℕ) × Rising places
-    × All (λ k. IsLast records (record_at records k).page k) places
-    × ((k : ℕ) → IsLast records (record_at records k).page k → Has places k)
+    × AllByRecursion (λ k. IsLast records (record_at records k).page k) places
+    × ((k : ℕ) → IsLast records (record_at records k).page k → ContainsAt places k)
     × (kept ≡ map (record_at records) places)
 
 -- Page p holds these bytes: those of its last record or, where it has none, zeros.

@@ -1,5 +1,6 @@
 // Numbered pages of 64 bytes, the stores that keep them in lent memory, and their export.
 // Every call answers for all arguments: it does what its contract says, or refuses and alters nothing.
+#![tactic(auto)]
 
 mod book;
 mod fault;

@@ -1,5 +1,6 @@
 // A price list, kept as a book of pages: it is written into a flat store, copied into a log store, and changed in both.
 // The log store is so small that the changes make it compact itself. At the end both books are exported and compared.
+#![tactic(auto)]
 
 mod book;
 mod cells;

@@ -6,7 +6,7 @@ ghost use Rattle.eviction.specs.declared.notice.Notice.TheVariants.{Used};
 ghost use Rattle.eviction.specs.OldestUse.{order_after, order_of, Chosen, TakesLongestAgo, Told};
 ghost use Rattle.eviction.specs.Order.{without, FirstToGo};
 ghost use Rattle.eviction.specs.Policy.{Chooses};
-ghost use Rattle.std.specs.List.{ContainsAt as Has};
+ghost use Rattle.std.specs.List.{ContainsAt};
 
 use crate::notice::Notice;
 use crate::oldest_use::OldestUse;
@@ -34,7 +34,7 @@ impl OldestUse {
     // Takes a place out of the order, if it is in it.
     fn forget(&mut self, place: u8)
         ensures order { order_of self.new ≡ without place (order_of self.old) }
-        ensures absent { Has (order_of self.new) place → ⊥ }
+        ensures absent { ContainsAt (order_of self.new) place → ⊥ }
         ensures ignored { 16 ≤ place → order_of self.new ≡ order_of self.old }
     {
         let OldestUse { places, used } = self;
@@ -44,7 +44,7 @@ impl OldestUse {
     // Puts a place that is not in the order at its end.
     fn append(&mut self, place: u8)
         requires known { place < 16 }
-        requires absent { Has (order_of self.old) place → ⊥ }
+        requires absent { ContainsAt (order_of self.old) place → ⊥ }
         ensures { order_of self.new ≡ order_of self.old ++ place ∷ [] }
     {
         self.places[self.used] = place;

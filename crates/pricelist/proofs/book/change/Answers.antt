@@ -1,4 +1,4 @@
-use Rattle.std.proofs.Common.{◌+◌, ◌-◌, ◌*◌, ◌%◌, sym, ap, ◌∙◌, arith}
+use Rattle.std.proofs.Common.{◌+◌, ◌*◌, ◌%◌, sym, ap, ◌∙◌, arith}
 use Rattle.pages.specs.Pieces.{overwritten}
 use Rattle.pricelist.proofs.BookLaws.{change_made, price_put, price_length}
 use Rattle.pricelist.proofs.book.change.Goals as goal

@@ -1,5 +1,5 @@
 use Rattle.std.proofs.Common.{◌≡◌, ℕ, ◌+◌, ◌<◌, [], ◌∷◌, ◌++◌, take, set, sym, ◌∙◌, subst, arith, length-set}
-use Rattle.std.specs.List.{ContainsAt as Has}
+use Rattle.std.specs.List.{ContainsAt}
 use Rattle.std.proofs.lemmas.List.{length-take-le, take_more_set}
 use Rattle.eviction.specs.declared.oldest_use.OldestUse.{OldestUse}
 use Rattle.eviction.specs.OldestUse.{order_of}
@@ -7,7 +7,7 @@ use Rattle.eviction.specs.Order.{Apart, Known}
 use Rattle.eviction.proofs.OrderLaws.{room, Known-push, Apart-push}
 use Rattle.eviction.proofs.oldest_use.OldestUse.append.Goals as goal
 
-module _ (policy : OldestUse) (k : ℕ) (lt : k < 16) (absent : Has (order_of policy) k → ⊥) where
+module _ (policy : OldestUse) (k : ℕ) (lt : k < 16) (absent : ContainsAt (order_of policy) k → ⊥) where
   has_room : policy.used < 16
   has_room =
       omega (arith, room k (order_of policy) lt policy.known policy.apart absent, length-take-le policy.used policy.places (omega (arith, policy.few, policy.wide)))

@@ -1,5 +1,5 @@
 use Rattle.std.proofs.Common.{sym, ◌∙◌, subst, arith}
-use Rattle.std.specs.List.{ContainsAt as Has}
+use Rattle.std.specs.List.{ContainsAt}
 use Rattle.eviction.specs.OldestUse.{order_of}
 use Rattle.eviction.specs.Order.{Apart, Known}
 use Rattle.eviction.proofs.OrderLaws.{Known-without, Apart-without, without_lacks, without_unknown}
@@ -22,6 +22,6 @@ returns c =
     let k = c.args.place in
     record {
       order = c.take_out.ensures.left;
-      absent = λ h. without_lacks k (order_of policy) (subst (λ xs. Has xs k) c.take_out.ensures.left h);
+      absent = λ h. without_lacks k (order_of policy) (subst (λ xs. ContainsAt xs k) c.take_out.ensures.left h);
       ignored = λ far. c.take_out.ensures.left ∙ without_unknown k (order_of policy) far policy.known;
     }
