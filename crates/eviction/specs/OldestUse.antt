@@ -1,5 +1,5 @@
 -- The rule of oldest use: the order that a notice leaves, which member a choice takes, and that it was used longest ago.
-use Rattle.std.specs.Prelude.{◌≡◌, ℕ, ◌<◌, ◌≤◌, cond, ◌⊎◌, List, [], ◌∷◌, ◌++◌, length, get_or, take, Some, None, Option, ◌≢◌, nat_lt, slice_index_or}
+use Rattle.std.specs.Prelude.{◌≡◌, ℕ, ◌<◌, ◌≤◌, cond, ◌⊎◌, List, [], ◌∷◌, ◌++◌, length, take, Some, None, Option, ◌≢◌, nat_lt, slice_index_or}
 use Rattle.eviction.specs.declared.notice.Notice.{Notice}
 use Rattle.eviction.specs.declared.notice.Notice.TheVariants.{Used, Emptied}
 use Rattle.eviction.specs.declared.oldest_use.OldestUse.{OldestUse}
@@ -33,7 +33,7 @@ Since = Heard (λ policy. order_of policy ≡ []) Told Chosen
 -- The last use of place k came i notices before the newest, and no newer notice names k.
 pub record LastUse (notices : List Notice) (k i : ℕ) : Type 0 where
   pub there : i < length notices
-  pub used : get_or notices i (Emptied k) ≡ Used k
+  pub used : slice_index_or notices i (Emptied k) ≡ Used k
   pub last : (h : ℕ) → h < i → place_of (slice_index_or notices h (Emptied k)) ≢ k
 
 -- Place k had no use, or an emptying came after it.

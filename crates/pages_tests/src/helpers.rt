@@ -8,8 +8,8 @@ pub(crate) fn page_of(byte: u8) -> [u8; 64] {
 }
 
 // 0 for an accepted call, else the number of its refusal.
-pub(crate) fn answer(res: Result<(), StoreFault>) -> u8 {
-    match res {
+pub(crate) fn answer(outcome: Result<(), StoreFault>) -> u8 {
+    match outcome {
         Ok(()) => 0,
         Err(fault) => fault.number(),
     }
