@@ -1,9 +1,26 @@
 -- A compacted log has the last record of each page, in their order, and no other.
 use Rattle.std.proofs.Common.{◌≡◌, ℕ, zero, suc, ◌<◌, eqb, List, [], ◌∷◌, map, length, Some, None, Option, sym, refl, ap, ◌∙◌, arith}
 use Rattle.std.specs.List.{ContainsAt, AllByRecursion}
+use Rattle.std.specs.List.Sorted.{IsStrictlyIncreasing}
+use Rattle.std.proofs.lemmas.List.Elements.{All-from_recursion}
+use native.Mathlib.Numerals.{unary_clauses}
 use Rattle.std.proofs.lemmas.Bool.{eq-eqb}
-use Rattle.pages.specs.Records.{Record, record_at, after, last_place, unless_later, compacted, IsLast, Rising, LastOfEach}
+use Rattle.pages.specs.declared.record.Record.{Record}
+use Rattle.pages.specs.Records.{record_at, after, last_place, unless_later, compacted, IsLast, LastOfEach}
 use Rattle.pages.proofs.RecordLaws.{last_place_is, is_last_later}
+
+-- from lower to higher numbers, by recursion
+Rising : List ℕ → Type 0
+Rising [] = Unit {0}
+Rising (k ∷ ks) = AllByRecursion (λ j. k < j) ks × Rising ks
+
+-- `LastOfEach`, by recursion on the places
+Kept : List Record → List Record → Type 0
+Kept rs kept =
+    (places : List ℕ) × Rising places
+    × AllByRecursion (λ k. IsLast rs (record_at rs k).page k) places
+    × ((k : ℕ) → IsLast rs (record_at rs k).page k → ContainsAt places k)
+    × (kept ≡ map (record_at rs) places)
 
 -- places one further on
 above_later : (k : ℕ) (ps : List ℕ) → AllByRecursion (λ j. k < j) ps → AllByRecursion (λ j. suc k < j) (map suc ps)
@@ -11,6 +28,7 @@ above_later k [] all = tt
 above_later k (p ∷ ps) (lt, all) = (omega arith, above_later k ps all)
 
 rising_later : (ps : List ℕ) → Rising ps → Rising (map suc ps)
+unfolding Rising
 rising_later [] rising = tt
 rising_later (p ∷ ps) (all, rising) = (above_later p ps all, rising_later ps rising)
 
@@ -42,11 +60,12 @@ has_later k (p ∷ ps) (suc i, lt, at) = has_next (suc p) (suc k) (map suc ps) (
 last_earlier : (r : Record) (rs : List Record) (p k : ℕ) → IsLast (r ∷ rs) p (suc k) → IsLast rs p k
 last_earlier r rs p k (lt, named, none) = (omega arith, named, λ j a b. none (suc j) (omega arith) (omega arith))
 
-pub compacted_last : (rs : List Record) → LastOfEach rs (compacted rs)
-compacted_last [] = ([], tt, tt, (λ k last. absurd (let lt : k < 0 = last.0 in let z : ⊥ = omega arith in z)), refl)
-compacted_last (r ∷ rs) = keep (last_place rs r.page) refl (compacted_last rs)
+compacted_kept : (rs : List Record) → Kept rs (compacted rs)
+unfolding Kept Rising
+compacted_kept [] = ([], tt, tt, (λ k last. absurd (let lt : k < 0 = last.0 in let z : ⊥ = omega arith in z)), refl)
+compacted_kept (r ∷ rs) = keep (last_place rs r.page) refl (compacted_kept rs)
   where
-    keep : (o : Option ℕ) → last_place rs r.page ≡ o → LastOfEach rs (compacted rs) → LastOfEach (r ∷ rs) (unless_later o r (compacted rs))
+    keep : (o : Option ℕ) → last_place rs r.page ≡ o → Kept rs (compacted rs) → Kept (r ∷ rs) (unless_later o r (compacted rs))
     keep (Some m) e (ps, rising, last, all, is) = (map suc ps, rising_later ps rising, last_later r rs ps last, whole, is ∙ sym (same_records r rs ps))
       where
         whole : (k : ℕ) → IsLast (r ∷ rs) (record_at (r ∷ rs) k).page k → ContainsAt (map suc ps) k
@@ -68,3 +87,16 @@ compacted_last (r ∷ rs) = keep (last_place rs r.page) refl (compacted_last rs)
         whole : (k : ℕ) → IsLast (r ∷ rs) (record_at (r ∷ rs) k).page k → ContainsAt (0 ∷ map suc ps) k
         whole zero here = has_here 0 (map suc ps)
         whole (suc k) here = has_next 0 (suc k) (map suc ps) (has_later k ps (all k (last_earlier r rs (record_at rs k).page k here)))
+
+increasing : (ps : List ℕ) → Rising ps → IsStrictlyIncreasing ps
+unfolding Rising
+increasing [] rising k lt = omega arith
+increasing (p ∷ []) rising k lt = omega arith
+increasing (p ∷ (q ∷ ps)) (all, rising) zero lt = all.0
+increasing (p ∷ (q ∷ ps)) (all, rising) (suc k) lt = simp unary_clauses (simp unary_clauses at (increasing (q ∷ ps) rising k (omega arith)))
+
+pub compacted_last : (rs : List Record) → LastOfEach rs (compacted rs)
+unfolding Kept
+compacted_last rs =
+    let (ps, rising, last, all, is) = compacted_kept rs in
+    (ps, increasing ps rising, All-from_recursion (λ k. IsLast rs (record_at rs k).page k) ps last, (λ k here. let (i, lt, at) = all k here in (i, lt, at k)), is)

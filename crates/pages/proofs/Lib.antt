@@ -5,6 +5,6 @@ pub mod RecordLaws
 pub mod OneEach
 pub mod SlotLaws
 pub mod Compacting
+pub mod LastOfEach
 pub mod LogLaws
 pub mod BookLaws
-pub mod LastOfEach

@@ -3,22 +3,25 @@ use Rattle.std.proofs.Common.{◌≡◌, ℕ, ◌+◌, ◌-◌, ◌*◌, ◌<◌
 use Rattle.std.specs.List.{AllByRecursion}
 use Rattle.std.proofs.lemmas.List.FromFn.{length-map-range_with_len, get_or-map-range_with_len}
 use Rattle.std.proofs.ByRecursion.{All-from_get_or}
+use Rattle.std.proofs.lemmas.List.Elements.{All-from_recursion}
 use Rattle.std.proofs.lemmas.List.{ext_get_or, length-drop, length-set, get_or-set_same, get_or-set_other}
-use Rattle.std.proofs.lemmas.Slice.{drop-put_mid}
 use Rattle.std.proofs.lemmas.Bool.{cases_eq, eq-eqb, eqb-true, eqb-false, ne_eqb}
 use Rattle.pages.specs.Store.{Shaped}
 use Rattle.pages.specs.Pieces.{piece, overwritten}
-use Rattle.pages.specs.Records.{Record, blank, record_at, bytes_at, last_place, content, compacted, Content, Located}
-use Rattle.pages.specs.Log.{slots_in, log_count, encoded, decoded, records_in, log_pages, Exact, Known, Indexes, LaidOut, RoomMade, with_room, past_last_slot}
-use Rattle.pages.proofs.Pieces.{length-piece, length-overwritten, put_mid-overwritten}
+use Rattle.pages.specs.declared.record.Record.{Record}
+use Rattle.pages.specs.Records.{blank, record_at, bytes_at, last_place, content, compacted, Content, Located}
+use Rattle.pages.specs.Log.{slots_in, log_count, encoded, decoded, records_in, log_pages, Exact, Known, Indexes, LaidOut, RoomMade, with_room}
+use Rattle.pages.proofs.Pieces.{length-piece, length-overwritten_piece, whole_piece_fits}
 use Rattle.pages.proofs.LastOfEach.{compacted_last}
 use Rattle.pages.proofs.OneEach.{compacted_few}
 use Rattle.pages.proofs.RecordBytes.{decoded-encoded, length-encoded}
 use Rattle.pages.proofs.RecordLaws.{either, last_place_is, last_place_located, last_place_push, content_is, content_push, content-compacted, All-compacted}
 use Rattle.pages.proofs.SlotLaws.{length-records_in, get_or-records_in, records_put, slots_put, exact_laid, All-from_Known, Known-from_All}
 
-pub log_length : (filled : ℕ) (memory : List ℕ) → length (log_pages filled memory) ≡ log_count (length memory)
-log_length filled memory = length-map-range_with_len (content (records_in filled memory)) 0 (log_count (length memory))
+pub length-log_pages : (filled : ℕ) (memory : List ℕ) → length (log_pages filled memory) ≡ log_count (length memory)
+length-log_pages filled memory = length-map-range_with_len (content (records_in filled memory)) 0 (log_count (length memory))
+
+pub ruleset log_laws = (length-map-range_with_len)
 
 pub log_at : (filled : ℕ) (memory : List ℕ) (p : ℕ) → p < log_count (length memory) → get_or (log_pages filled memory) p [] ≡ content (records_in filled memory) p
 log_at filled memory p lt = get_or-map-range_with_len (content (records_in filled memory)) 0 (log_count (length memory)) p p [] lt (zero-add p)
@@ -42,8 +45,10 @@ module _ (filled : ℕ) (memory : List ℕ) (few : filled ≤ slots_in (length m
 
   pub log_shaped : Shaped (log_pages filled memory)
   log_shaped = record {
-    few = omega (arith, log_length filled memory);
-    wide = All-from_get_or (λ page. length page ≡ 64) (log_pages filled memory) [] (λ p lt. ap length (log_at filled memory p (omega (arith, log_length filled memory))) ∙ content_wide p);
+    few = omega (arith, length-log_pages filled memory);
+    wide =
+        All-from_recursion (λ (page : List ℕ). length page ≡ 64) (log_pages filled memory)
+        (All-from_get_or (λ (page : List ℕ). length page ≡ 64) (log_pages filled memory) [] (λ p lt. ap length (log_at filled memory p (omega (arith, length-log_pages filled memory))) ∙ content_wide p));
   }
 
 -- exact slots are the records in the layout
@@ -63,10 +68,10 @@ pub log_write : (slots filled filled' : ℕ) (memory memory' : List ℕ) (r : Re
     → log_pages filled' memory' ≡ set (log_pages filled memory) r.page r.bytes
 log_write slots filled filled' memory memory' r same inside appended =
     ext_get_or [] (log_pages filled' memory') (set (log_pages filled memory) r.page r.bytes)
-    (size ∙ sym (log_length filled memory) ∙ sym (length-set (log_pages filled memory) r.page r.bytes))
+    (size ∙ sym (length-log_pages filled memory) ∙ sym (length-set (log_pages filled memory) r.page r.bytes))
     (λ q l0.
     let l : q < log_count (length memory) = omega (arith, size) in
-    let l' : q < log_count (length memory') = omega (arith, log_length filled' memory') in
+    let l' : q < log_count (length memory') = omega (arith, length-log_pages filled' memory') in
     log_at filled' memory' q l' ∙ ap (λ rs. content rs q) appended
     ∙ content_push (with_room slots (records_in filled memory)) r q
     ∙ ap (cond (eqb r.page q) r.bytes) (content-with_room slots (records_in filled memory) q)
@@ -74,23 +79,23 @@ log_write slots filled filled' memory memory' r same inside appended =
     (λ e.
     ap (λ b. cond b r.bytes (content (records_in filled memory) q)) (eq-eqb r.page q (sym e))
     ∙ sym (ap (λ i. get_or (set (log_pages filled memory) r.page r.bytes) i []) e
-    ∙ get_or-set_same (log_pages filled memory) r.page r.bytes [] (omega (arith, log_length filled memory))))
+    ∙ get_or-set_same (log_pages filled memory) r.page r.bytes [] (omega (arith, length-log_pages filled memory))))
     (λ apart.
     ap (λ b. cond b r.bytes (content (records_in filled memory) q)) (ne_eqb r.page q (λ e. apart (sym e)))
     ∙ sym (get_or-set_other (log_pages filled memory) r.page q r.bytes [] apart ∙ log_at filled memory q l))
     (cases_eq q r.page))
   where
     size : length (log_pages filled' memory') ≡ log_count (length memory)
-    size = log_length filled' memory' ∙ ap log_count same
+    size = length-log_pages filled' memory' ∙ ap log_count same
 
 -- a record put into the next slot
 module _ (memory : List ℕ) (filled : ℕ) (last : List (Option ℕ)) (r : Record) (wide : length r.bytes ≡ 64)
     (room : filled < slots_in (length memory)) where
   fits : 66 * filled + 66 ≤ length memory
-  fits = omega (arith, room)
+  fits = whole_piece_fits 66 8192 filled (length memory) room
 
   pub put_length : length (overwritten memory (66 * filled) (encoded r)) ≡ length memory
-  put_length = length-overwritten (66 * filled) memory (encoded r) (omega (arith, length-encoded r wide, fits))
+  put_length = length-overwritten_piece 66 8192 filled memory (encoded r) (length-encoded r wide) room
 
   pub put_records : records_in (filled + 1) (overwritten memory (66 * filled) (encoded r)) ≡ records_in filled memory ++ r ∷ []
   put_records =
@@ -124,12 +129,6 @@ module _ (memory : List ℕ) (filled : ℕ) (last : List (Option ℕ)) (r : Reco
       found : last_place (records_in (filled + 1) (overwritten memory (66 * filled) (encoded r))) p
           ≡ cond (eqb r.page p) (Some (length (records_in filled memory))) (last_place (records_in filled memory) p)
       found = ap (λ rs. last_place rs p) put_records ∙ last_place_push (records_in filled memory) r p
-
-  pub put_past : past_last_slot (overwritten memory (66 * filled) (encoded r)) ≡ past_last_slot memory
-  put_past =
-      ap (λ n. drop (66 * slots_in n) (overwritten memory (66 * filled) (encoded r))) put_length
-      ∙ ap (drop (66 * slots_in (length memory))) (sym (put_mid-overwritten (66 * filled) 66 memory (encoded r) (length-encoded r wide)))
-      ∙ drop-put_mid (66 * filled) 66 memory (encoded r) (66 * slots_in (length memory)) (omega (arith, room)) (omega (arith, fits)) (length-encoded r wide)
 
   -- what the store keeps, over the values that a write leaves
   pub put_kept : (memory' : List ℕ) (p : ℕ) → memory' ≡ overwritten memory (66 * filled) (encoded r) → p ≡ r.page → r.page < log_count (length memory)
@@ -187,7 +186,7 @@ module _ (filled : ℕ) (memory : List ℕ) (last : List (Option ℕ)) (indexed 
 pub log_reads : (filled : ℕ) (memory : List ℕ) (p : ℕ) (bytes : List ℕ) → p < length (log_pages filled memory) → bytes ≡ content (records_in filled memory) p
     → (bytes ≡ get_or (log_pages filled memory) p []) × Content (records_in filled memory) p bytes
 log_reads filled memory p bytes lt e = (
-  e ∙ sym (log_at filled memory p (omega (arith, log_length filled memory))),
+  e ∙ sym (log_at filled memory p (omega (arith, length-log_pages filled memory))),
   subst (Content (records_in filled memory) p) (sym e) (content_is (records_in filled memory) p),
 )
 

@@ -1,11 +1,12 @@
 -- Laws of memory in pieces, at every width: where a piece lies, and what a write to one leaves.
-use Rattle.std.proofs.Common.{◌≡◌, ℕ, suc, ◌+◌, ◌-◌, ◌*◌, ◌<◌, ◌≤◌, List, [], ◌++◌, length, get_or, take, drop, set, sym, ap, ◌∙◌, subst, ⊎_elim, mul-le-mul_left, zero-add, mul-suc, arith}
+use Rattle.std.proofs.Common.{◌≡◌, ℕ, zero, suc, ◌+◌, ◌*◌, ◌/◌, ◌<◌, ◌≤◌, List, [], ◌++◌, length, get_or, take, drop, set, sym, ap, ◌∙◌, subst, ⊎_elim, mul-le-mul_left, zero-add, mul-suc, mul-zero, mul_comm, div-mul-le_self, le-div_iff_mul-le, arith}
 use borrow.Rule.Slice.PartMut.{put_mid}
 use Rattle.std.proofs.lemmas.List.FromFn.{length-map-range_with_len, get_or-map-range_with_len}
-use Rattle.std.proofs.lemmas.List.{length-take, length-drop, length-append, length-set, get_or-take, get_or-drop, drop-drop, drop-take, drop_at, take_at, length-take-le, ext_get_or, get_or-set_same, get_or-set_other}
+use Rattle.std.proofs.lemmas.List.{length-take, length-drop, length-append, length-set, drop-drop, drop-take, drop_at, take_at, length-take-le, ext_get_or, get_or-set_same, get_or-set_other}
 use Rattle.std.proofs.lemmas.Slice.{take-put_mid_below, drop-put_mid}
 use Rattle.std.proofs.lemmas.Bool.{cases_eq, cases_order}
-use Rattle.pages.specs.Pieces.{piece, pieces, overwritten}
+use Rattle.std.specs.Simd.{first_chunks}
+use Rattle.pages.specs.Pieces.{piece, pieces, overwritten, whole_pieces}
 
 -- a piece ends where the next begins
 pub piece_ends : (width k j : ℕ) → k < j → width * k + width ≤ width * j
@@ -22,26 +23,18 @@ get_or-pieces width n k memory lt = get_or-map-range_with_len (piece width memor
 pub length-piece : (width k : ℕ) (memory : List ℕ) → width * k + width ≤ length memory → length (piece width memory k) ≡ width
 length-piece width k memory fits = simp (length-take, length-drop) (omega arith)
 
-pub get_or-piece : (width k i : ℕ) (memory : List ℕ) → i < width → get_or (piece width memory k) i 0 ≡ get_or memory (width * k + i) 0
-get_or-piece width k i memory lt = get_or-take width (drop (width * k) memory) i 0 lt ∙ get_or-drop (width * k) memory i 0
+-- the chunks that a slice falls into are its pieces
+pub get_or-first_chunks : (width n k : ℕ) (memory d : List ℕ) → k < n → get_or (first_chunks width n memory) k d ≡ piece width memory k
+get_or-first_chunks width zero k memory d lt = absurd (omega arith)
+get_or-first_chunks width (suc n) zero memory d lt = ap (λ j. take width (drop j memory)) (sym (mul-zero width))
+get_or-first_chunks width (suc n) (suc k) memory d lt =
+    get_or-first_chunks width n k (drop width memory) d (omega arith)
+    ∙ ap (take width) (drop-drop (width * k) width memory ∙ ap (λ j. drop j memory) (let e : width + width * k ≡ width * suc k = omega (arith, mul-suc width k) in e))
 
 -- what a slice's write to `at..at + k` leaves, in the words of the definitions
 pub put_mid-overwritten : (at k : ℕ) (memory bytes : List ℕ) → length bytes ≡ k → put_mid at k memory bytes ≡ overwritten memory at bytes
 put_mid-overwritten at k memory bytes e =
     ap (λ rest. take at memory ++ (bytes ++ rest)) (drop-drop k at memory ∙ ap (λ n. drop (at + n) memory) (sym e))
-
--- the part of the memory that is piece k, and what a write to that part leaves
-pub part_piece : (width k : ℕ) (memory : List ℕ) → take (width * k + width - width * k) (drop (width * k) memory) ≡ piece width memory k
-part_piece width k memory =
-    let e : width * k + width - width * k ≡ width = omega arith in
-    ap (λ n. take n (drop (width * k) memory)) e
-
-pub put_mid-piece : (width k : ℕ) (memory bytes put : List ℕ) → length bytes ≡ width → put ≡ bytes
-    → put_mid (width * k) (width * k + width - width * k) memory put ≡ overwritten memory (width * k) bytes
-put_mid-piece width k memory bytes put wide same =
-    let e : width * k + width - width * k ≡ width = omega arith in
-    ap (λ n. put_mid (width * k) n memory put) e ∙ ap (put_mid (width * k) width memory) same
-    ∙ put_mid-overwritten (width * k) width memory bytes wide
 
 pub length-overwritten : (at : ℕ) (memory bytes : List ℕ) → at + length bytes ≤ length memory → length (overwritten memory at bytes) ≡ length memory
 length-overwritten at memory bytes fits = simp (length-append, length-take, length-drop) (omega arith)
@@ -99,3 +92,21 @@ pieces_same width n memory memory' same =
     (λ k l0.
     let l : k < n = omega (arith, length-pieces width n memory') in
     get_or-pieces width n k memory' l ∙ same k l ∙ sym (get_or-pieces width n k memory l))
+
+-- a piece that lies within the memory is one of its whole pieces
+pub piece_within : (width k n : ℕ) → 0 < width → width * k + width ≤ n → k < n / width
+piece_within width k n wide fits =
+    let e : suc k * width ≤ n = omega (arith, fits, mul-suc width k, mul_comm (suc k) width) in
+    (le-div_iff_mul-le wide).1 e
+
+-- a whole piece ends within the memory
+pub whole_piece_fits : (width most k n : ℕ) → k < whole_pieces width most n → width * k + width ≤ n
+whole_piece_fits width most k n lt =
+    let some : suc k ≤ n / width = omega arith in
+    let ends : width * suc k ≤ width * (n / width) = mul-le-mul_left width some in
+    omega (arith, ends, mul-suc width k, mul_comm width (n / width), div-mul-le_self n width)
+
+pub length-overwritten_piece : (width most k : ℕ) (memory bytes : List ℕ) → length bytes ≡ width → k < whole_pieces width most (length memory)
+    → length (overwritten memory (width * k) bytes) ≡ length memory
+length-overwritten_piece width most k memory bytes wide lt =
+    length-overwritten (width * k) memory bytes (omega (arith, wide, whole_piece_fits width most k (length memory) lt))

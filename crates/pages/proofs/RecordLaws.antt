@@ -2,8 +2,10 @@
 use Rattle.std.proofs.Common.{◌≡◌, ℕ, zero, suc, ◌<◌, Bool, true, false, cond, eqb, ◌⊎◌, List, [], ◌∷◌, ◌++◌, length, Some, None, Option, sym, refl, ap, ◌∙◌, subst, inl, inr, ⊎_elim, arith}
 use Rattle.std.specs.List.{AllByRecursion}
 use Rattle.std.proofs.lemmas.List.{get_or_push, get_or_append_left}
+use Rattle.std.proofs.lemmas.Option.{none-some}
 use Rattle.std.proofs.lemmas.Bool.{eqb-true, eqb-false, ne_eqb, cases_Bool}
-use Rattle.pages.specs.Records.{Record, blank, record_at, after, last_place, bytes_at, content, unless_later, compacted, IsLast, Content, Located}
+use Rattle.pages.specs.declared.record.Record.{Record}
+use Rattle.pages.specs.Records.{blank, record_at, after, last_place, bytes_at, content, unless_later, compacted, IsLast, Content, Located}
 
 -- the cases of a page's last place
 
@@ -11,14 +13,11 @@ pub either : (o : Option ℕ) → (o ≡ None) ⊎ ((k : ℕ) × (o ≡ Some k))
 either None = inl refl
 either (Some k) = inr (k, refl)
 
-pub some≢none : (k : ℕ) → Some k ≡ None → ⊥
-some≢none k e = let z : ◌≡◌ {A = ℕ} 0 1 = cc in omega arith
-
 -- where there is none, neither the first record nor a later one names the page
 after_none : (here : Bool) (o : Option ℕ) → after here o ≡ None → (o ≡ None) × (here ≡ false)
-after_none true None e = absurd (some≢none 0 e)
+after_none true None e = absurd (none-some 0 (sym e))
 after_none false None e = (refl, refl)
-after_none here (Some k) e = absurd (some≢none (suc k) e)
+after_none here (Some k) e = absurd (none-some (suc k) (sym e))
 
 -- no record names the page
 
@@ -40,7 +39,7 @@ is_last_later r rs p k (lt, named, later) = (omega arith, named, past)
     past (suc j) a b q = later j (omega arith) (omega arith) q
 
 pub last_place_is : (rs : List Record) (p k : ℕ) → last_place rs p ≡ Some k → IsLast rs p k
-last_place_is [] p k e = absurd (some≢none k (sym e))
+last_place_is [] p k e = absurd (none-some k e)
 last_place_is (r ∷ rs) p k e = ⊎_elim first (λ s. further s.0 s.1 (last_place_is rs p s.0 s.1)) (either (last_place rs p))
   where
     further : (i : ℕ) → last_place rs p ≡ Some i → IsLast rs p i → IsLast (r ∷ rs) p k
@@ -63,7 +62,7 @@ last_place_is (r ∷ rs) p k e = ⊎_elim first (λ s. further s.0 s.1 (last_pla
         absent : eqb r.page p ≡ false → IsLast (r ∷ rs) p k
         absent f =
             let bad : Some k ≡ None = cc in
-            absurd (some≢none k bad)
+            absurd (none-some k (sym bad))
 
 -- the place found, in the words of the relation
 pub last_place_located : (rs : List Record) (p : ℕ) → Located rs p (last_place rs p)
@@ -129,7 +128,7 @@ compacted_none (r ∷ rs) p e = keep (last_place rs r.page) (compacted_none rs p
     keep None n = let f = (after_none (eqb r.page p) (last_place rs p) e).1 in cc
 
 pub compacted_some : (rs : List Record) (p k : ℕ) → last_place rs p ≡ Some k → (j : ℕ) × (last_place (compacted rs) p ≡ Some j)
-compacted_some [] p k e = absurd (some≢none k (sym e))
+compacted_some [] p k e = absurd (none-some k e)
 compacted_some (r ∷ rs) p k e =
     ⊎_elim first (λ s. further (last_place rs r.page) (compacted_some rs p s.0 s.1)) (either (last_place rs p))
   where
@@ -151,7 +150,7 @@ compacted_some (r ∷ rs) p k e =
         absent : eqb r.page p ≡ false → (j : ℕ) × (last_place (compacted (r ∷ rs)) p ≡ Some j)
         absent f =
             let bad : Some k ≡ None = cc in
-            absurd (some≢none k bad)
+            absurd (none-some k (sym bad))
 
 pub content-compacted : (rs : List Record) (p : ℕ) → content (compacted rs) p ≡ content rs p
 content-compacted [] p = refl
@@ -161,7 +160,7 @@ content-compacted (r ∷ rs) p = keep (last_place rs r.page) refl (content-compa
     keep (Some m) e ih =
         ih ∙ ⊎_elim
         (λ n.
-        let other : eqb r.page p ≡ false = ne_eqb r.page p (λ q. some≢none m (sym e ∙ ap (last_place rs) q ∙ n)) in
+        let other : eqb r.page p ≡ false = ne_eqb r.page p (λ q. none-some m (sym (sym e ∙ ap (last_place rs) q ∙ n))) in
         ap (bytes_at rs) n ∙ ap (λ b. cond b r.bytes blank) (sym other) ∙ sym (content_first r rs p n))
         (λ s. sym (content_later r rs p s.0 s.1))
         (either (last_place rs p))

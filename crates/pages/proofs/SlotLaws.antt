@@ -1,15 +1,15 @@
 -- Records by their slots: what the filled slots hold, and what a write to the next slot adds.
-use Rattle.std.proofs.Common.{◌≡◌, ℕ, zero, suc, ◌+◌, ◌-◌, ◌*◌, ◌<◌, ◌≤◌, List, [], ◌∷◌, ◌++◌, map, length, get_or, take, drop, sym, refl, ap, ◌∙◌, subst, ⊎_elim, zero-add, arith, take-add}
-use lib.Seq.{paste}
+use Rattle.std.proofs.Common.{◌≡◌, ℕ, zero, suc, ◌+◌, ◌*◌, ◌<◌, ◌≤◌, List, [], ◌∷◌, ◌++◌, map, length, get_or, take, sym, refl, ap, ◌∙◌, subst, ⊎_elim, zero-add, arith, take-add}
 use Rattle.std.specs.List.{flat_map, AllByRecursion}
 use Rattle.std.proofs.lemmas.List.FromFn.{map-range_with_len_more}
 use Rattle.std.proofs.ByRecursion.{All-from_get_or, All-get_or}
-use Rattle.std.proofs.lemmas.List.{length-map, map_push, get_or-map, flat_map_more, append_assoc, drop-drop, drop-take}
+use Rattle.std.proofs.lemmas.List.{length-map, map_push, get_or-map, flat_map_more}
 use Rattle.std.proofs.lemmas.Bool.{cases_eq}
 use Rattle.pages.specs.Pieces.{piece, pieces, overwritten}
-use Rattle.pages.specs.Records.{Record, blank}
+use Rattle.pages.specs.declared.record.Record.{Record}
+use Rattle.pages.specs.Records.{blank}
 use Rattle.pages.specs.Log.{encoded, decoded, records_in, Exact, Known}
-use Rattle.pages.proofs.Pieces.{length-piece, length-pieces, get_or-pieces, pieces_same, piece-overwritten_same, piece-overwritten_other}
+use Rattle.pages.proofs.Pieces.{length-pieces, get_or-pieces, pieces_same, piece-overwritten_same, piece-overwritten_other}
 
 pub length-records_in : (n : ℕ) (memory : List ℕ) → length (records_in n memory) ≡ n
 length-records_in n memory = length-map (pieces 66 n memory) decoded ∙ length-pieces 66 n memory
@@ -65,23 +65,6 @@ exact_laid (suc n) memory exact =
     e : n + 1 ≡ suc n
     e = omega arith
 
--- the part of a slot that is the page
-pub slot_page : (k : ℕ) (memory : List ℕ) → take (66 * k + 66 - (66 * k + 2)) (drop (66 * k + 2) memory) ≡ drop 2 (piece 66 memory k)
-slot_page k memory =
-    let n : 66 * k + 66 - (66 * k + 2) ≡ 64 = omega arith in
-    ap (λ i. take i (drop (66 * k + 2) memory)) n
-    ∙ ap (take 64) (sym (drop-drop 2 (66 * k) memory))
-    ∙ sym (drop-take 2 64 (drop (66 * k) memory))
-
--- one slot copied over another
-pub slot_moved : (from to : ℕ) (memory : List ℕ) → 66 * from + 66 ≤ length memory
-    → paste memory (66 * to) (drop (66 * from) memory) (66 * from + 66 - 66 * from) ≡ overwritten memory (66 * to) (piece 66 memory from)
-slot_moved from to memory fits =
-    let n : 66 * from + 66 - 66 * from ≡ 66 = omega arith in
-    ap (paste memory (66 * to) (drop (66 * from) memory)) n
-    ∙ append_assoc (take (66 * to) memory) (piece 66 memory from) (drop (66 * to + 66) memory)
-    ∙ ap (λ k. take (66 * to) memory ++ (piece 66 memory from ++ drop (66 * to + k) memory)) (sym (length-piece 66 from memory fits))
-
 pub All-from_Known : (count n : ℕ) (memory : List ℕ) → Known count n memory → AllByRecursion (λ (r : Record). r.page < count) (records_in n memory)
 All-from_Known count n memory known =
     All-from_get_or (λ (r : Record). r.page < count) (records_in n memory) (record { page = 0; bytes = blank })
@@ -93,3 +76,5 @@ pub Known-from_All : (count n : ℕ) (memory : List ℕ) → AllByRecursion (λ 
 Known-from_All count n memory all k lt =
     subst (λ (r : Record). r.page < count) (get_or-records_in n k memory (record { page = 0; bytes = blank }) lt)
     (All-get_or (λ (r : Record). r.page < count) (records_in n memory) k (record { page = 0; bytes = blank }) (omega (arith, length-records_in n memory)) all)
+
+pub ruleset slot_laws = (length-records_in)

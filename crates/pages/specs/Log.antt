@@ -1,13 +1,14 @@
 -- The log store's layout: slots of 66 bytes, each a page number in two bytes, low byte first, and then the page.
-use Rattle.std.specs.Prelude.{◌≡◌, ℕ, ◌+◌, ◌*◌, ◌/◌, ◌%◌, ◌<◌, min, cond, ◌⊎◌, List, ◌∷◌, map, length, take, drop, None, Option, ◌==◌, slice_index, slice_index_or}
+use Rattle.std.specs.Prelude.{◌≡◌, ℕ, ◌+◌, ◌*◌, ◌/◌, ◌%◌, ◌<◌, if◌then◌else◌, ◌⊎◌, List, ◌∷◌, map, length, take, drop, None, Option, ◌==◌, slice_index, slice_index_or}
 use Rattle.std.specs.List.{flat_map}
-use Rattle.pages.specs.Pieces.{piece, pieces}
-use Rattle.pages.specs.Records.{Record, contents, compacted, last_place, LastOfEach}
+use Rattle.pages.specs.Pieces.{piece, pieces, whole_pieces}
+use Rattle.pages.specs.declared.record.Record.{Record}
+use Rattle.pages.specs.Records.{contents, compacted, last_place, LastOfEach}
 use Rattle.pages.specs.Store.{Page}
 
 -- how many slots n bytes of memory hold
 abbrev pub slots_in : ℕ → ℕ
-slots_in n = min (n / 66) 8192
+slots_in n = whole_pieces 66 8192 n
 
 -- how many pages: half as many as slots, so that a compacted log has room for one more record
 abbrev pub log_count : ℕ → ℕ
@@ -47,14 +48,10 @@ LaidOut memory records = take (66 * length records) memory ≡ flat_map encoded 
 
 -- what a write appends to: the records as they are or, where every slot is filled, the last of each page
 abbrev pub with_room : ℕ → List Record → List Record
-with_room slots records = cond (length records == slots) (compacted records) records
+with_room slots records = if length records == slots then compacted records else records
 
 -- `kept` is what a write appends to, in other words: while a slot is left all records are kept,
 -- and where every slot is filled the last record of each page is.
 abbrev pub RoomMade : ℕ → List Record → List Record → Type 0
 RoomMade slots records kept =
     ((length records < slots) × (kept ≡ records)) ⊎ ((length records ≡ slots) × LastOfEach records kept)
-
--- the bytes past the last slot
-abbrev pub past_last_slot : List ℕ → List ℕ
-past_last_slot memory = drop (66 * slots_in (length memory)) memory

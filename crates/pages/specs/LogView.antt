@@ -1,15 +1,21 @@
 -- A log store as its reader sees it: memory, records and pages, and what a write does to them.
 use Rattle.std.specs.Prelude.{◌≡◌, ℕ, ◌<◌, List, [], ◌∷◌, ◌++◌, length, None, Result, slice_index_or}
+use Rattle.std.specs.Borrow.{MutBor}
 use Rattle.pages.specs.declared.fault.StoreFault.{StoreFault}
 use Rattle.pages.specs.declared.log.LogStore.{LogStore}
 use Rattle.pages.specs.Fault.{Answers}
-use Rattle.pages.specs.Log.{slots_in, records_in, log_pages, past_last_slot, LaidOut, RoomMade}
-use Rattle.pages.specs.Records.{Record, Located}
+use Rattle.pages.specs.declared.record.Record.{Record}
+use Rattle.pages.specs.Log.{slots_in, records_in, log_pages, LaidOut, RoomMade}
+use Rattle.pages.specs.Memory.{KeepsMemory}
+use Rattle.pages.specs.Records.{Located}
 use Rattle.pages.specs.Store.{Page}
 
--- the memory that was lent
+-- the store's loan of its memory, and the memory's bytes
+abbrev pub loan_of : LogStore → MutBor (List ℕ)
+loan_of store = store.memory
+
 abbrev pub memory_of : LogStore → List ℕ
-memory_of store = store.memory.now
+memory_of store = (loan_of store).now
 
 -- the records in the filled slots
 abbrev pub records_of : LogStore → List Record
@@ -37,8 +43,6 @@ LogWrites store p bytes store' =
     Answers (length bytes ≡ 64) (p < length (pages_of store)) (Appended store p bytes store')
     ((memory_of store' ≡ memory_of store) × (records_of store' ≡ records_of store))
 
--- The memory is the one that was lent and as long as it was, and the bytes past its last slot are as they were.
-pub record SameMemory (store store' : LogStore) : Type 0 where
-  pub lent : store'.memory.ghost_name ≡ store.memory.ghost_name
-  pub size : length (memory_of store') ≡ length (memory_of store)
-  pub past : past_last_slot (memory_of store') ≡ past_last_slot (memory_of store)
+-- The memory is the one that was lent, and its bytes past the last slot are as they were.
+abbrev pub SameMemory : LogStore → LogStore → Type 0
+SameMemory store store' = KeepsMemory 66 8192 (loan_of store) (loan_of store')

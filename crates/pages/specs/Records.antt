@@ -1,12 +1,9 @@
 -- Records of page writes, in the order in which they came: a page's last record is its content.
-use Rattle.std.specs.Prelude.{◌≡◌, ℕ, suc, ◌<◌, Bool, cond, ◌⊎◌, List, [], ◌∷◌, map, length, replicate, Some, None, Option, ◌==◌, ◌≢◌, slice_index_or}
-use Rattle.std.specs.List.{range_with_len, ContainsAt, AllByRecursion}
+use Rattle.std.specs.Prelude.{◌≡◌, ℕ, suc, ◌<◌, Bool, if◌then◌else◌, ◌⊎◌, List, [], ◌∷◌, All, Contains, map, length, replicate, Some, None, Option, ◌==◌, ◌≢◌, slice_index_or}
+use Rattle.std.specs.List.{range_with_len}
+use Rattle.std.specs.List.Sorted.{IsStrictlyIncreasing}
+use Rattle.pages.specs.declared.record.Record.{Record}
 use Rattle.pages.specs.Store.{Page}
-
--- a page number, and the bytes that were written to that page
-pub record Record : Type 0 where
-  pub page : ℕ
-  pub bytes : Page
 
 -- a page that was never written: 64 zero bytes
 abbrev pub blank : Page
@@ -19,7 +16,7 @@ record_at records k = slice_index_or records k (record { page = 0; bytes = blank
 -- a place in the rest of the records, seen from the record before it, which may name the page itself
 abbrev pub after : Bool → Option ℕ → Option ℕ
 after here (Some k) = Some (suc k)
-after here None = cond here (Some 0) None
+after here None = if here then Some 0 else None
 
 -- the place of a page's last record, if it has one (`Located`, below, says what that is)
 abbrev pub last_place : List Record → ℕ → Option ℕ
@@ -59,17 +56,12 @@ IsLast records p k =
 abbrev pub Unwritten : List Record → ℕ → Type 0
 Unwritten records p = (j : ℕ) → j < length records → (record_at records j).page ≢ p
 
--- from lower to higher numbers
-abbrev pub Rising : List ℕ → Type 0
-Rising [] = Unit {0}
-Rising (k ∷ ks) = AllByRecursion (λ j. k < j) ks × Rising ks
-
 -- These are the last records of their pages, one for each page that has a record, in their order.
 abbrev pub LastOfEach : List Record → List Record → Type 0
 LastOfEach records kept =
-    (places : List ℕ) × Rising places
-    × AllByRecursion (λ k. IsLast records (record_at records k).page k) places
-    × ((k : ℕ) → IsLast records (record_at records k).page k → ContainsAt places k)
+    (places : List ℕ) × IsStrictlyIncreasing places
+    × All (λ k. IsLast records (record_at records k).page k) places
+    × ((k : ℕ) → IsLast records (record_at records k).page k → Contains places k)
     × (kept ≡ map (record_at records) places)
 
 -- Page p holds these bytes: those of its last record or, where it has none, zeros.

@@ -1,6 +1,6 @@
 -- What a page store means: a list of pages of 64 bytes, of which each is read and written whole.
-use Rattle.std.specs.Prelude.{◌≡◌, ℕ, ◌*◌, ◌<◌, ◌≤◌, List, [], length, take, Result, slice_index_or, slice_set}
-use Rattle.std.specs.List.{flat_map, AllByRecursion}
+use Rattle.std.specs.Prelude.{◌≡◌, ℕ, ◌*◌, ◌<◌, ◌≤◌, List, [], All, length, take, Result, slice_index_or, slice_set}
+use Rattle.std.specs.List.{flat_map}
 use Rattle.pages.specs.declared.fault.StoreFault.{StoreFault}
 use Rattle.pages.specs.Fault.{Answers}
 
@@ -11,7 +11,7 @@ Page = List ℕ
 -- at most 4,096 pages, each of 64 bytes
 pub record Shaped (pages : List Page) : Type 0 where
   pub few : length pages ≤ 4096
-  pub wide : AllByRecursion (λ page. length page ≡ 64) pages
+  pub wide : All (λ page. length page ≡ 64) pages
 
 -- Reading page p fills the buffer with its bytes.
 abbrev pub Reads : List Page → ℕ → List ℕ → List ℕ → Result Unit StoreFault → Type 0

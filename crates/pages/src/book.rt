@@ -13,12 +13,15 @@ pub fn export<S: PageStore>(store: &S, count: usize, buffer: &mut [u8]) -> Resul
     if count.checked_mul(PAGE_BYTES) != Some(buffer.len()) {
         return Err(StoreFault::WrongLength);
     }
-    if count > usize::from(store.count()) {
-        return Err(StoreFault::NoSuchPage);
+    let pages = store.count();
+    match u16::try_from(count) {
+        Ok(count) if count <= pages => copy_pages(store, count, buffer),
+        _ => Err(StoreFault::NoSuchPage),
     }
-    copy_pages(store, count as u16, buffer)
 }
 
+// It goes by ranges and not by `chunks_exact_mut`: once such a loan of parts is over, a proof knows the buffer's length and no
+// longer its bytes.
 fn copy_pages<S: PageStore>(store: &S, count: u16, buffer: &mut [u8]) -> Result<(), StoreFault>
     requires fits { length buffer.old ≡ 64 * count }
     requires there { count ≤ length (S.PageStore.pages store.now) }

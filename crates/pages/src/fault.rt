@@ -15,7 +15,7 @@ pub enum StoreFault {
 }
 
 impl StoreFault {
-    // The number under which the refusal is documented.
+    // The number under which the refusal is documented, which callers keep in logs and pass on: so it stays a number.
     pub fn number(self) -> u8
         ensures { result ≡ number_of self }
     {
@@ -35,6 +35,7 @@ impl StoreFault {
     }
 }
 
+// By hand, since the message of a derive has no contract, and this one promises what is printed.
 impl fmt::Display for StoreFault {
     ghost output = { λ fault. Some (text_of fault) };
 

@@ -1,13 +1,9 @@
 // A page store over lent memory in which page p lies at byte 64 × p: as many pages as fit, at most 4,096.
 // The bytes past the last page are never altered.
 
-ghost use Rattle.std.specs.Prelude.{◌≡◌, ◌*◌, ◌<◌, [], length, OnOk, slice_index_or, slice_set};
-ghost use Rattle.pages.specs.Flat.{flat_count, flat_pages, memory_of, pages_of, past_last_page, FlatWrites, SameMemory};
-ghost use Rattle.pages.specs.Pieces.{piece, overwritten};
-ghost use Rattle.pages.specs.Store.{Reads, Shaped, Writes};
-
 use crate::fault::StoreFault;
-use crate::store::{MOST_PAGES, PAGE_BYTES, PageStore, check_access};
+use crate::memory::{count_pieces, piece, put_piece};
+use crate::store::{MOST_PAGES, PAGE_BYTES, Page, PageStore, check_page};
 
 #[derive(Drop)]
 pub struct FlatStore<'a> {
@@ -15,65 +11,68 @@ pub struct FlatStore<'a> {
 }
 
 impl<'a> FlatStore<'a> {
-    // The store of the pages that the memory holds as it stands.
-    // The names of references say that the store goes on using this memory, so that the lender knows
-    // what it holds once the store is gone.
+    ghost use Rattle.std.specs.Prelude.{◌≡◌, OnOk};
+    ghost use Rattle.pages.specs.Flat.{loan_of, memory_of, pages_of, FlatWrites, SameMemory};
+    ghost use Rattle.pages.specs.Memory.{SameLoan};
+    ghost use Rattle.pages.specs.Pieces.{piece};
+    ghost use Rattle.pages.specs.Store.{Reads, Writes};
+
+    // The store of the pages that the memory holds as it stands. It goes on using this memory, so that the lender knows
+    // what the memory holds once the store is gone.
     pub fn new(memory: &'a mut [u8]) -> FlatStore<'a>
         ensures holds { memory_of result ≡ memory.old }
-        ensures lent { result.memory.ghost_name ≡ memory.entry.ghost_name }
+        ensures lent { SameLoan memory.entry (loan_of result) }
     {
         FlatStore { memory }
     }
-}
 
-// How many pages a memory holds.
-fn pages_in(memory: &[u8]) -> u16
-    ensures value { result ≡ length (flat_pages memory.now) }
-    ensures shape { Shaped (flat_pages memory.now) }
-    ensures size { result ≡ flat_count (length memory.now) }
-{
-    (memory.len() / PAGE_BYTES).min(MOST_PAGES) as u16
-}
+    // Fills the buffer with a page.
+    #[tactic(auto, using(crate::proofs::FlatLaws::flat_laws))]
+    fn load(&self, page: u16, buffer: &mut Page) -> Result<(), StoreFault>
+        ensures page { Reads (pages_of self.now) page buffer.old buffer.new result }
+        ensures bytes { OnOk result (buffer.new ≡ piece 64 (memory_of self.now) page) }
+    {
+        check_page(self.count(), page)?;
+        *buffer = *piece(self.memory, page);
+        Ok(())
+    }
 
-fn read_page(memory: &[u8], page: u16, buffer: &mut [u8])
-    requires fits { length buffer.old ≡ 64 }
-    requires there { page < length (flat_pages memory.now) }
-    ensures page { buffer.new ≡ slice_index_or (flat_pages memory.now) page [] }
-    ensures bytes { buffer.new ≡ piece 64 memory.now page }
-{
-    let at = PAGE_BYTES * usize::from(page);
-    buffer.copy_from_slice(&memory[at..at + PAGE_BYTES]);
-}
-
-fn write_page(memory: &mut [u8], page: u16, bytes: &[u8])
-    requires fits { length bytes.now ≡ 64 }
-    requires there { page < length (flat_pages memory.old) }
-    ensures pages { flat_pages memory.new ≡ slice_set (flat_pages memory.old) page bytes.now }
-    ensures bytes { memory.new ≡ overwritten memory.old (64 * page) bytes.now }
-    ensures past { past_last_page memory.new ≡ past_last_page memory.old }
-{
-    let at = PAGE_BYTES * usize::from(page);
-    memory[at..at + PAGE_BYTES].copy_from_slice(bytes);
+    // Makes a page these bytes.
+    #[tactic(auto, using(crate::proofs::FlatLaws::flat_laws))]
+    fn save(&mut self, page: u16, bytes: &Page) -> Result<(), StoreFault>
+        ensures pages { Writes (pages_of self.old) page bytes.now (pages_of self.new) result }
+        ensures bytes { FlatWrites self.old page bytes.now self.new result }
+        ensures memory { SameMemory self.old self.new }
+    {
+        check_page(self.count(), page)?;
+        put_piece(self.memory, page, bytes);
+        Ok(())
+    }
 }
 
 impl<'a> PageStore for FlatStore<'a> {
+    ghost use Rattle.std.specs.Prelude.{◌≡◌, length, OnOk};
+    ghost use Rattle.pages.specs.Flat.{flat_count, memory_of, pages_of, FlatWrites, SameMemory};
+    ghost use Rattle.pages.specs.Pieces.{piece};
+    ghost use Rattle.pages.specs.Store.{Reads, Shaped, Writes};
+
     ghost pages = { pages_of };
 
+    #[tactic(auto, using(crate::proofs::FlatLaws::flat_laws))]
     fn count(&self) -> u16
         ensures value { result ≡ length (pages_of self.now) }
         ensures shape { Shaped (pages_of self.now) }
         ensures size { result ≡ flat_count (length (memory_of self.now)) }
     {
-        pages_in(self.memory)
+        count_pieces::<PAGE_BYTES>(self.memory, MOST_PAGES)
     }
 
     fn read(&self, page: u16, buffer: &mut [u8]) -> Result<(), StoreFault>
         ensures page { Reads (pages_of self.now) page buffer.old buffer.new result }
         ensures bytes { OnOk result (buffer.new ≡ piece 64 (memory_of self.now) page) }
     {
-        check_access(self.count(), page, buffer.len())?;
-        read_page(self.memory, page, buffer);
-        Ok(())
+        let buffer = buffer.as_mut_array().ok_or(StoreFault::WrongLength)?;
+        self.load(page, buffer)
     }
 
     fn write(&mut self, page: u16, bytes: &[u8]) -> Result<(), StoreFault>
@@ -81,8 +80,7 @@ impl<'a> PageStore for FlatStore<'a> {
         ensures bytes { FlatWrites self.old page bytes.now self.new result }
         ensures memory { SameMemory self.old self.new }
     {
-        check_access(self.count(), page, bytes.len())?;
-        write_page(self.memory, page, bytes);
-        Ok(())
+        let bytes = bytes.as_array().ok_or(StoreFault::WrongLength)?;
+        self.save(page, bytes)
     }
 }

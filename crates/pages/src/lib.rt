@@ -6,6 +6,8 @@ mod book;
 mod fault;
 mod flat;
 mod log;
+mod memory;
+mod record;
 mod slots;
 mod store;
 
@@ -13,5 +15,5 @@ pub use book::export;
 pub use fault::StoreFault;
 pub use flat::FlatStore;
 pub use log::LogStore;
-pub use slots::SLOT_BYTES;
+pub use record::SLOT_BYTES;
 pub use store::{MOST_PAGES, PAGE_BYTES, PageStore};

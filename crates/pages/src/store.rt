@@ -10,9 +10,14 @@ use crate::fault::StoreFault;
 // the bytes of a page
 pub const PAGE_BYTES: usize = 64;
 
+// a page's bytes
+pub(crate) type Page = [u8; PAGE_BYTES];
+
 // the most pages that a store has
 pub const MOST_PAGES: usize = 4096;
 
+// Each store turns the buffer into a page's array and then has a call of its own for the page. These few lines are no body of the
+// trait's, since the contract of each store says more than the trait's, and a shared body could not.
 pub trait PageStore {
     // the pages, each by its bytes
     ghost pages: { Self → List Page };
@@ -31,13 +36,10 @@ pub trait PageStore {
         ensures { Writes (pages self.old) page bytes.now (pages self.new) result };
 }
 
-// The two checks of every read and write: the buffer's length, then the page.
-pub(crate) fn check_access(count: u16, page: u16, length: usize) -> Result<(), StoreFault>
-    ensures { Answers (length ≡ 64) (page < count) (Unit {0}) (Unit {0}) result }
+// Whether a store with so many pages has a page.
+pub(crate) fn check_page(count: u16, page: u16) -> Result<(), StoreFault>
+    ensures { Answers (Unit {0}) (page < count) (Unit {0}) (Unit {0}) result }
 {
-    if length != PAGE_BYTES {
-        return Err(StoreFault::WrongLength);
-    }
     if page >= count {
         return Err(StoreFault::NoSuchPage);
     }
