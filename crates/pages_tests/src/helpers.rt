@@ -1,16 +1,37 @@
-// What the tests share: a page of one byte, and a call's answer as its documented number.
+// What the tests share: pages of one byte, written and found again in a log's slots, and a call's answer by its number.
 
-use pages::StoreFault;
+use pages::{PageStore, StoreFault};
+use std::process::Abort;
 
 // A page whose every byte is the same.
 pub(crate) fn page_of(byte: u8) -> [u8; 64] {
     [byte; 64]
 }
 
-// 0 for an accepted call, else the number of its refusal.
-pub(crate) fn answer(outcome: Result<(), StoreFault>) -> u8 {
-    match outcome {
-        Ok(()) => 0,
-        Err(fault) => fault.number(),
+// What a call answers, a refusal by its documented number.
+pub(crate) fn answer(outcome: Result<(), StoreFault>) -> Result<(), u8> {
+    outcome.map_err(StoreFault::number)
+}
+
+// Writes a page made of one byte for each pair of a page and a byte.
+pub(crate) fn write_all<S: PageStore>(rt: &impl Abort, store: &mut S, writes: &[(u16, u8)]) {
+    for &(page, byte) in writes {
+        assert_eq!(rt; answer(store.write(page, &page_of(byte))), Ok(()));
+    }
+}
+
+// A record of such a page: the page's number, low byte first, and then its bytes.
+fn slot_of(page: u16, byte: u8) -> [u8; 66] {
+    let mut slot = [byte; 66];
+    slot[..2].copy_from_slice(&page.to_le_bytes());
+    slot
+}
+
+// Compares the first slots of a log's memory with the records of such pages.
+pub(crate) fn check_slots(rt: &impl Abort, memory: &[u8], records: &[(u16, u8)]) {
+    let (slots, _) = memory.as_chunks::<66>();
+    assert!(rt; records.len() <= slots.len());
+    for (slot, &(page, byte)) in slots.iter().zip(records) {
+        assert_eq!(rt; *slot, slot_of(page, byte));
     }
 }

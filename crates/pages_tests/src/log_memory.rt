@@ -1,49 +1,18 @@
 // The log store's records as they stand in its memory, before and after it compacts itself.
 
-use crate::helpers::{answer, page_of};
+use crate::helpers::{answer, check_slots, page_of, write_all};
 use pages::{LogStore, PageStore};
 use std::process::Abort;
 use std::test::Fail;
 
-// Writes a page made of one byte for each pair of a page and a byte.
-fn write_all(rt: &impl Abort, store: &mut LogStore<'_>, writes: &[(u16, u8)]) {
-    for (page, byte) in writes {
-        assert_eq!(rt; answer(store.write(*page, &page_of(*byte))), 0);
-    }
-}
-
 // Compares each page with what was last written to it, or with zeros.
 fn check_pages(rt: &impl Abort, store: &LogStore<'_>, writes: &[(u16, u8)]) {
     for page in 0..store.count() {
-        let mut expected = 0;
-        for (written, byte) in writes {
-            if *written == page {
-                expected = *byte;
-            }
-        }
+        let last = writes.iter().rev().find(|(written, _)| *written == page);
         let mut buffer = page_of(255);
-        assert_eq!(rt; answer(store.read(page, &mut buffer)), 0);
-        assert!(rt; buffer == page_of(expected));
+        assert_eq!(rt; answer(store.read(page, &mut buffer)), Ok(()));
+        assert_eq!(rt; buffer, page_of(last.map_or(0, |(_, byte)| *byte)));
     }
-}
-
-// Compares the memory's first slots with the records of such pages.
-fn check_slots(rt: &impl Abort, memory: &[u8], records: &[(u16, u8)]) -> Result<(), Fail> {
-    assert!(rt; records.len() <= memory.len() / 66);
-    for (slot, record) in memory.chunks_exact(66).zip(records.iter()) {
-        let (page, byte) = *record;
-        let [low, high, content @ ..] = slot else {
-            return Err(Fail::new("a slot is 66 bytes long"));
-        };
-        assert_eq!(rt;
-            usize::from(*low) + 256 * usize::from(*high),
-            usize::from(page)
-        );
-        for found in content {
-            assert_eq!(rt; *found, byte);
-        }
-    }
-    Ok(())
 }
 
 // Writes to a log of so many slots, whose memory ends in 30 bytes more, and compares pages, records and those bytes.
@@ -55,14 +24,13 @@ fn case(
 ) -> Result<(), Fail> {
     let used = 66 * usize::from(slots);
     let mut memory = vec![in rt.alloc(); 170u8; used + 30]?;
-    let mut store = LogStore::new(memory.as_mut_slice());
+    let mut store = LogStore::new(&mut memory);
     write_all(rt, &mut store, writes);
     assert_eq!(rt; store.records(), records.len());
     check_pages(rt, &store, writes);
-    check_slots(rt, memory.as_slice(), records)?;
-    for byte in memory.as_slice().iter().skip(used) {
-        assert_eq!(rt; *byte, 170);
-    }
+    check_slots(rt, &memory, records);
+    let mut tail = memory.iter().skip(used);
+    assert!(rt; tail.all(|&byte| byte == 170));
     Ok(())
 }
 
@@ -129,19 +97,18 @@ fn full_log_keeps_the_last_record_of_each_page(rt: HostRuntime) -> Result<(), Fa
 #[test]
 fn page_numbers_stand_low_byte_first(rt: HostRuntime) -> Result<(), Fail> {
     let mut memory = vec![in rt.alloc(); 238u8; 66 * 600]?;
-    let mut store = LogStore::new(memory.as_mut_slice());
+    let mut store = LogStore::new(&mut memory);
     write_all(&rt, &mut store, &[(299, 5), (0, 6), (256, 7)]);
-    let slots = memory.as_slice();
-    assert_eq!(rt; slots.get(0).copied(), Some(43));
-    assert_eq!(rt; slots.get(1).copied(), Some(1));
-    check_slots(&rt, slots, &[(299, 5), (0, 6), (256, 7)])
+    assert!(rt; memory.starts_with(&[43, 1]));
+    check_slots(&rt, &memory, &[(299, 5), (0, 6), (256, 7)]);
+    Ok(())
 }
 
 #[test]
 fn largest_log(rt: HostRuntime) -> Result<(), Fail> {
     let mut memory = vec![in rt.alloc(); 9u8; 66 * 8192 + 100]?;
-    let mut store = LogStore::new(memory.as_mut_slice());
-    assert_eq!(rt; answer(store.write(4096, &page_of(1))), 3);
+    let mut store = LogStore::new(&mut memory);
+    assert_eq!(rt; answer(store.write(4096, &page_of(1))), Err(3));
     for _ in 0..4096 {
         write_all(&rt, &mut store, &[(4095, 1), (7, 2)]);
     }
@@ -149,9 +116,8 @@ fn largest_log(rt: HostRuntime) -> Result<(), Fail> {
     write_all(&rt, &mut store, &[(4095, 3)]);
     assert_eq!(rt; store.records(), 3);
     check_pages(&rt, &store, &[(4095, 1), (7, 2), (4095, 3)]);
-    check_slots(&rt, memory.as_slice(), &[(4095, 1), (7, 2), (4095, 3)])?;
-    for byte in memory.as_slice().iter().skip(66 * 8192) {
-        assert_eq!(rt; *byte, 9);
-    }
+    check_slots(&rt, &memory, &[(4095, 1), (7, 2), (4095, 3)]);
+    let mut tail = memory.iter().skip(66 * 8192);
+    assert!(rt; tail.all(|&byte| byte == 9));
     Ok(())
 }

@@ -1,13 +1,12 @@
 // A page store of a vendor's own, with a single page in an array: what the trait asks for is all that it shows.
 
-ghost use Rattle.std.specs.Prelude.{◌≡◌, [], ◌∷◌, length};
+ghost use Rattle.std.specs.Prelude.{[], ◌∷◌};
 
 use pages::{PAGE_BYTES, PageStore, StoreFault};
 
 #[derive(Drop)]
 pub(crate) struct OnePage {
     page: [u8; PAGE_BYTES],
-    ghost wide: { length page ≡ 64 },
 }
 
 impl OnePage {
@@ -26,24 +25,20 @@ impl PageStore for OnePage {
     }
 
     fn read(&self, page: u16, buffer: &mut [u8]) -> Result<(), StoreFault> {
-        if buffer.len() != PAGE_BYTES {
-            return Err(StoreFault::WrongLength);
-        }
+        let buffer = buffer.as_mut_array().ok_or(StoreFault::WrongLength)?;
         if page > 0 {
             return Err(StoreFault::NoSuchPage);
         }
-        buffer.copy_from_slice(&self.page);
+        *buffer = self.page;
         Ok(())
     }
 
     fn write(&mut self, page: u16, bytes: &[u8]) -> Result<(), StoreFault> {
-        if bytes.len() != PAGE_BYTES {
-            return Err(StoreFault::WrongLength);
-        }
+        let bytes = bytes.as_array().ok_or(StoreFault::WrongLength)?;
         if page > 0 {
             return Err(StoreFault::NoSuchPage);
         }
-        self.page.copy_from_slice(bytes);
+        self.page = *bytes;
         Ok(())
     }
 }

@@ -1,32 +1,46 @@
 // Books of rows in any page store: written, copied, searched and changed.
 // A change makes one price another, and a copy makes the pages of one store those of another.
 
-ghost use Rattle.std.specs.Prelude.{◌≡◌, IfOk, OnOk};
-ghost use Rattle.pricelist.specs.Books.{copied, repriced};
-ghost use Rattle.std.specs.List.{flat_map};
+ghost use Rattle.std.specs.Prelude.{◌≡◌, ◌^◌, ◌/◌, ◌<◌, ◌≤◌, length, min, IfOk, MatchResult, OnErr, OnOk};
+ghost use Rattle.pricelist.specs.Books.{begins, copied, repriced, rows_of};
+ghost use Rattle.std.specs.List.{flat_map, position};
 
-use crate::cells::CELL_BYTES;
+use crate::cells::{CELL_BYTES, Cell};
 use pages::{PAGE_BYTES, PageStore, StoreFault, export};
 use std::alloc::Global;
 
 // A row is an article's cell and its price's.
 const ROW_BYTES: usize = 2 * CELL_BYTES;
 
-const ROWS_PER_PAGE: usize = 4;
+const ROWS_PER_PAGE: usize = PAGE_BYTES / ROW_BYTES;
 
-// Writes whole pages, from page 0 on, and answers how many.
-pub(crate) fn write_book<S: PageStore>(store: &mut S, bytes: &[u8]) -> Result<u16, StoreFault> {
-    let mut pages = 0u16;
-    for page in bytes.chunks_exact(PAGE_BYTES) {
-        store.write(pages, page)?;
-        pages = pages.saturating_add(1);
-    }
-    Ok(pages)
+// A store's number for a page, which has 16 bits: no store has so many pages.
+fn page_number(page: usize) -> Result<u16, StoreFault>
+    ensures { MatchResult result (λ number. number ≡ page) (λ _. 2 ^ 16 ≤ page) }
+{
+    u16::try_from(page).map_err(|_| StoreFault::NoSuchPage)
 }
 
-// Copies every page of one store into another.
+// Writes a book's pages, from page 0 on. It fails only where the store has fewer.
+#[tactic(auto, using(crate::proofs::BookLaws::copy_more))]
+pub(crate) fn write_book<S: PageStore>(
+    store: &mut S,
+    book: &[[u8; PAGE_BYTES]],
+) -> Result<(), StoreFault>
+    ensures written { OnOk result (S.PageStore.pages store.new ≡ copied book.now (S.PageStore.pages store.old)) }
+    ensures too_small { OnErr result (min (length (S.PageStore.pages store.old)) (2 ^ 16) < length book.now) }
+{
+    for (page, bytes) in book.iter().enumerate() {
+        store.write(page_number(page)?, bytes)?;
+    }
+    Ok(())
+}
+
+// Copies every page of one store into another. It fails only where the other has fewer.
+#[tactic(auto, using(crate::proofs::BookLaws::copy_more))]
 pub(crate) fn copy_book<A: PageStore, B: PageStore>(from: &A, to: &mut B) -> Result<(), StoreFault>
-    ensures { OnOk result (B.PageStore.pages to.new ≡ copied (A.PageStore.pages from.now) (B.PageStore.pages to.old)) }
+    ensures made { OnOk result (B.PageStore.pages to.new ≡ copied (A.PageStore.pages from.now) (B.PageStore.pages to.old)) }
+    ensures too_small { OnErr result (length (B.PageStore.pages to.old) < length (A.PageStore.pages from.now)) }
 {
     for page in 0..from.count() {
         let mut buffer = [0; PAGE_BYTES];
@@ -42,34 +56,28 @@ pub(crate) fn book_of<S: PageStore>(heap: Global, store: &S) -> anyhow::Result<V
 {
     let pages = usize::from(store.count());
     let mut book = vec![in heap; 0u8; pages * PAGE_BYTES]?;
-    export(store, pages, book.as_mut_slice())?;
+    export(store, pages, &mut book)?;
     Ok(book)
 }
 
 // The first row that begins with an article's cell.
-pub(crate) fn find(book: &[u8], article: &[u8; CELL_BYTES]) -> Option<usize> {
-    for (row, bytes) in book.chunks_exact(ROW_BYTES).enumerate() {
-        if bytes.starts_with(article) {
-            return Some(row);
-        }
-    }
-    None
+pub(crate) fn find(book: &[u8], article: Cell) -> Option<usize>
+    ensures { result ≡ position (begins article.0) (rows_of book.now) }
+{
+    let (rows, _) = book.as_chunks::<ROW_BYTES>();
+    rows.iter().position(|row| row.starts_with(&article.0))
 }
 
-// Makes a row's price another one, on its page.
-pub(crate) fn change<S: PageStore>(
-    store: &mut S,
-    row: usize,
-    price: &[u8; CELL_BYTES],
-) -> Result<(), StoreFault>
-    ensures { OnOk result (S.PageStore.pages store.new ≡ repriced (S.PageStore.pages store.old) row price.now) }
+// Makes a row's price another one, on its page. It fails only where the store has no such page, and alters nothing then.
+pub(crate) fn change<S: PageStore>(store: &mut S, row: usize, price: Cell) -> Result<(), StoreFault>
+    ensures changed { OnOk result (S.PageStore.pages store.new ≡ repriced (S.PageStore.pages store.old) row price.0) }
+    ensures unaltered { OnErr result (S.PageStore.pages store.new ≡ S.PageStore.pages store.old) }
+    ensures no_such_row { OnErr result (min (length (S.PageStore.pages store.old)) (2 ^ 16) ≤ row / 4) }
 {
-    let Ok(page) = u16::try_from(row / ROWS_PER_PAGE) else {
-        return Err(StoreFault::NoSuchPage);
-    };
+    let page = page_number(row / ROWS_PER_PAGE)?;
     let at = row % ROWS_PER_PAGE * ROW_BYTES + CELL_BYTES;
     let mut buffer = [0; PAGE_BYTES];
     store.read(page, &mut buffer)?;
-    buffer[at..at + CELL_BYTES].copy_from_slice(price);
+    buffer[at..at + CELL_BYTES].copy_from_slice(&price.0);
     store.write(page, &buffer)
 }

@@ -5,9 +5,9 @@
 mod book;
 mod cells;
 
-use anyhow::anyhow;
+use anyhow::Context;
 use book::{book_of, change, copy_book, find, write_book};
-use cells::{CELL_BYTES, cell, rows, text};
+use cells::{CELL_BYTES, Cell, rows};
 use pages::{FlatStore, LogStore, PAGE_BYTES, SLOT_BYTES};
 use std::alloc::Global;
 use std::fs;
@@ -18,91 +18,84 @@ const FLAT_BYTES: usize = 4 * PAGE_BYTES;
 const LOG_BYTES: usize = 8 * SLOT_BYTES;
 
 fn main(rt: HostRuntime) -> anyhow::Result<()> {
-    run(&rt)
-}
-
-fn run(rt: &HostRuntime) -> anyhow::Result<()> {
-    let prices = fs::read_to_string(rt, "prices.txt")?;
-    let changes = fs::read_to_string(rt, "changes.txt")?;
+    let prices = fs::read_to_string(&rt, "prices.txt")?;
+    let changes = fs::read_to_string(&rt, "changes.txt")?;
     let mut flat_memory = [0; FLAT_BYTES];
-    let mut flat = FlatStore::new(&mut flat_memory);
     let mut log_memory = [0; LOG_BYTES];
-    let mut log = LogStore::new(&mut log_memory);
-    fill(rt, &mut flat, &mut log, prices.as_str())?;
-    for line in changes.as_str().lines() {
-        apply(rt, &mut flat, &mut log, line)?;
+    let mut books = Books {
+        flat: FlatStore::new(&mut flat_memory),
+        log: LogStore::new(&mut log_memory),
+    };
+    books.fill(&rt, &prices)?;
+    for line in changes.lines() {
+        books.apply(&rt, line)?;
     }
-    compare(rt, &flat, &log)
+    books.compare(&rt)
 }
 
-// Writes the list into the flat store, and copies the book into the log store.
-fn fill(
-    rt: &HostRuntime,
-    flat: &mut FlatStore<'_>,
-    log: &mut LogStore<'_>,
-    list: &str,
-) -> anyhow::Result<()> {
-    let bytes = rows(rt.alloc(), list)?;
-    let pages = write_book(flat, bytes.as_slice())?;
-    println!(rt; "pages written to the flat store: {pages}")?;
-    copy_book(flat, log)?;
-    let records = log.records();
-    println!(rt; "copied to the log store: {records} records")?;
-    Ok(())
+// The same book, in a flat store and in a log store.
+#[derive(Drop)]
+struct Books<'a> {
+    flat: FlatStore<'a>,
+    log: LogStore<'a>,
 }
 
-// Changes one price in both books, and says so where the log was compacted.
-fn apply(
-    rt: &HostRuntime,
-    flat: &mut FlatStore<'_>,
-    log: &mut LogStore<'_>,
-    line: &str,
-) -> anyhow::Result<()> {
-    let Some((article, price)) = line.split_once(' ') else {
-        return Err(anyhow!("a change is an article and a price"));
-    };
-    let book = book_of(rt.alloc(), flat)?;
-    let Some(row) = find(book.as_slice(), &cell(article)?) else {
-        return Err(anyhow!("a change names an article that is not in the list"));
-    };
-    let new = cell(price)?;
-    let before = log.records();
-    change(flat, row, &new)?;
-    change(log, row, &new)?;
-    let after = log.records();
-    println!(rt; "{article} now {price}: {after} records")?;
-    if after <= before {
-        println!(rt; "the log was compacted: {before} records before, {after} after")?;
+impl<'a> Books<'a> {
+    // Writes the list into the flat store, and copies the book into the log store.
+    fn fill(&mut self, rt: &(impl Print + AllocGlobal), list: &str) -> anyhow::Result<()> {
+        let bytes = rows(rt.alloc(), list)?;
+        let (pages, _) = bytes.as_chunks::<PAGE_BYTES>();
+        write_book(&mut self.flat, pages)?;
+        println!(rt; "pages written to the flat store: {}", pages.len())?;
+        copy_book(&self.flat, &mut self.log)?;
+        println!(rt; "copied to the log store: {} records", self.log.records())?;
+        Ok(())
     }
-    Ok(())
-}
 
-// Exports both books, compares them, and shows the first cells of two pages.
-fn compare(rt: &HostRuntime, flat: &FlatStore<'_>, log: &LogStore<'_>) -> anyhow::Result<()> {
-    let one = book_of(rt.alloc(), flat)?;
-    let other = book_of(rt.alloc(), log)?;
-    let agree = if one.as_slice() == other.as_slice() {
-        "yes"
-    } else {
-        "no"
-    };
-    println!(rt; "the exports agree: {agree}")?;
-    for page in [0, 2] {
-        let cells = first_cells(rt.alloc(), other.as_slice(), page)?;
-        println!(rt; "page {page} begins: {cells}")?;
+    // Changes one price in both books, and says so where the log was compacted.
+    fn apply(&mut self, rt: &(impl Print + AllocGlobal), line: &str) -> anyhow::Result<()> {
+        let (article, price) = line
+            .split_once(' ')
+            .context("a change is an article and a price")?;
+        let book = book_of(rt.alloc(), &self.flat)?;
+        let found = find(&book, Cell::try_from(article)?);
+        let row = found.context("a change names an article that is not in the list")?;
+        let new = Cell::try_from(price)?;
+        let before = self.log.records();
+        change(&mut self.flat, row, new)?;
+        change(&mut self.log, row, new)?;
+        let after = self.log.records();
+        println!(rt; "{article} now {price}: {after} records")?;
+        if after <= before {
+            println!(rt; "the log was compacted: {before} records before, {after} after")?;
+        }
+        Ok(())
     }
-    Ok(())
+
+    // Exports both books, compares them, and shows the first cells of two pages.
+    fn compare(&self, rt: &(impl Print + AllocGlobal)) -> anyhow::Result<()> {
+        let one = book_of(rt.alloc(), &self.flat)?;
+        let other = book_of(rt.alloc(), &self.log)?;
+        let agree = if one == other { "yes" } else { "no" };
+        println!(rt; "the exports agree: {agree}")?;
+        for page in [0, 2] {
+            let cells = first_cells(rt.alloc(), &other, page)?;
+            println!(rt; "page {page} begins: {cells}")?;
+        }
+        Ok(())
+    }
 }
 
 // The first four cells of a page, as text.
 fn first_cells(heap: Global, book: &[u8], page: usize) -> anyhow::Result<String> {
     let mut shown = String::new(heap);
+    let (cells, _) = book.as_chunks::<CELL_BYTES>();
     let skipped = page.saturating_mul(PAGE_BYTES / CELL_BYTES);
-    for bytes in book.chunks_exact(CELL_BYTES).skip(skipped).take(4) {
+    for bytes in cells.iter().skip(skipped).take(4) {
         if !shown.is_empty() {
             shown.push_str(" | ")?;
         }
-        shown.push_str(text(bytes)?)?;
+        shown.push_str(Cell(*bytes).text()?)?;
     }
     Ok(shown)
 }
