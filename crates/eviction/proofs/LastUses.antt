@@ -1,26 +1,26 @@
 -- The order of last use says how long ago each place was used, so the member that goes first by it was used longest ago.
 use Rattle.std.proofs.Common.{◌≡◌, ℕ, zero, suc, ◌+◌, ◌<◌, ◌≤◌, true, eqb, ltb, List, [], ◌∷◌, ◌++◌, length, get_or, take, is_some, Some, None, Option, sym, refl, ap, ◌∙◌, subst, ⊎_elim, add-one, arith}
-use Rattle.std.specs.List.{ContainsAt, AllByRecursion}
-use Rattle.std.proofs.lemmas.Nat.{shr_le}
-use Rattle.std.proofs.ByRecursion.{All-from_get_or, all-has, all_kept_by, All-push, All-weaker, has_append_left, has_push}
-use Rattle.std.proofs.lemmas.List.{get_or-take, length-take-le, take_more, take-take}
+use Rattle.std.specs.List.{All, AllPairs, Contains}
+use Rattle.std.proofs.lemmas.List.{get_or-take, get_or_default, length-take-le, take_all, take_more}
+use Rattle.std.proofs.lemmas.List.Elements.{All-contains, All-filter, All-from_get_or, All-push, All-weaker, Contains-append_left, Contains-push}
+use Rattle.std.proofs.lemmas.List.Kept.{AllPairs-filter}
+use Rattle.std.proofs.lemmas.List.Quantifiers.{all_pairs_push}
 use Rattle.std.proofs.lemmas.Bool.{cases_eq, cases_lt, cases_order, cond-true, cond-false, eq-eqb, ne_eqb, le-ltb, lt-ltb, false≢true}
 use Rattle.eviction.specs.declared.notice.Notice.{Notice}
 use Rattle.eviction.specs.declared.notice.Notice.TheVariants.{Used, Emptied}
-use Rattle.eviction.specs.declared.oldest_use.OldestUse.{OldestUse}
-use Rattle.eviction.specs.OldestUse.{order_after, order_of, LongestAgo, Since}
-use Rattle.eviction.specs.Order.{Apart, Known, without, Fresh, Lowest, MemberAt, FirstToGo}
+use Rattle.eviction.specs.OldestUse.{order_after, LongestAgo, Since, TakesLongestAgo}
+use Rattle.eviction.specs.Order.{IsOrder, without, Fresh, Lowest, MemberAt, FirstToGo}
 use Rattle.eviction.specs.Places.{Member}
 use Rattle.eviction.specs.Policy.{nothing, one_more, asked}
 use Rattle.eviction.proofs.Ages.{later, used_ago, Ahead, sooner}
-use Rattle.eviction.proofs.OrderLaws.{Pairs, Other, Pairs-filter, Pairs-push, Pairs-get_or, Known-take, Apart-take, without_absent, without_others, has_without}
+use Rattle.eviction.proofs.OrderLaws.{Other, without_absent, without_others, Contains-without}
 
 -- the order that notices leave in a policy that was new before them, the newest notice first
 abbrev order_by : List Notice → List ℕ
 order_by [] = []
 order_by (n ∷ ns) = order_after n (order_by ns)
 
-heard_order : {notices : List Notice} {policy : OldestUse} → Since notices policy → order_of policy ≡ order_by notices
+heard_order : {notices : List Notice} {order : List ℕ} → Since notices order → order ≡ order_by notices
 heard_order (nothing e) = e
 heard_order (one_more notice h t) = t.order ∙ ap (order_after notice) (heard_order h)
 heard_order (asked h c) = c.order ∙ heard_order h
@@ -34,10 +34,10 @@ Leads age k j = Ahead k (age k) j (age j)
 
 -- The order has the places that are in use, by their age.
 record Tracks (age : ℕ → Option ℕ) (order : List ℕ) : Type 0 where
-  places : AllByRecursion (λ k. k < 16) order
-  used : AllByRecursion (InUse age) order
-  falling : Pairs (Leads age) order
-  whole : (k : ℕ) → k < 16 → InUse age k → ContainsAt order k
+  places : All (λ k. k < 16) order
+  used : All (InUse age) order
+  falling : AllPairs (Leads age) order
+  whole : (k : ℕ) → k < 16 → InUse age k → Contains order k
 
 Ahead-later : (k : ℕ) (a : Option ℕ) (j : ℕ) (b : Option ℕ) → Ahead k a j b → Ahead k (later a) j (later b)
 Ahead-later k None j None s = s
@@ -59,20 +59,16 @@ ahead_of_now k (Some a) j u = omega arith
 
 -- One notice of place j: every other place is one notice older.
 module _ (age age' : ℕ → Option ℕ) (j : ℕ) (older : (k : ℕ) → Other k j → age' k ≡ later (age k)) where
-  still_used : (xs : List ℕ) → AllByRecursion (λ k. Other k j) xs → AllByRecursion (InUse age) xs → AllByRecursion (InUse age') xs
-  still_used [] o u = tt
-  still_used (x ∷ xs) (o, os) (u, us) = (ap is_some (older x o) ∙ used_later (age x) u, still_used xs os us)
+  still_used : (xs : List ℕ) → All (λ k. Other k j) xs → All (InUse age) xs → All (InUse age') xs
+  still_used xs o u i d l = ap is_some (older (get_or xs i d) (o i d l)) ∙ used_later (age (get_or xs i d)) (u i d l)
 
-  still_ahead : (x : ℕ) (xs : List ℕ) → Other x j → AllByRecursion (λ k. Other k j) xs → AllByRecursion (Leads age x) xs → AllByRecursion (Leads age' x) xs
-  still_ahead x [] o os s = tt
-  still_ahead x (k ∷ xs) o (p, os) (s, ss) = (
-    subst (λ a. Ahead x a k (age' k)) (sym (older x o)) (subst (λ a. Ahead x (later (age x)) k a) (sym (older k p)) (Ahead-later x (age x) k (age k) s)),
-    still_ahead x xs o os ss,
-  )
-
-  still_falling : (xs : List ℕ) → AllByRecursion (λ k. Other k j) xs → Pairs (Leads age) xs → Pairs (Leads age') xs
-  still_falling [] o p = tt
-  still_falling (x ∷ xs) (o, os) (s, p) = (still_ahead x xs o os s, still_falling xs os p)
+  still_falling : (xs : List ℕ) → All (λ k. Other k j) xs → AllPairs (Leads age) xs → AllPairs (Leads age') xs
+  still_falling xs o p h i d lt l =
+      let x = get_or xs h d in
+      let y = get_or xs i d in
+      let x-older : age' x ≡ later (age x) = older x (o h d (omega arith)) in
+      let y-older : age' y ≡ later (age y) = older y (o i d l) in
+      rw (x-older, y-older) (Ahead-later x (age x) y (age y) (p h i d lt l))
 
   used_then : (k : ℕ) → Other k j → InUse age' k → InUse age k
   used_then k o u = used_before (age k) (sym (ap is_some (older k o)) ∙ u)
@@ -80,11 +76,11 @@ module _ (age age' : ℕ → Option ℕ) (j : ℕ) (older : (k : ℕ) → Other 
   -- the place was emptied
   tracks_emptied : age' j ≡ None → (order : List ℕ) → Tracks age order → Tracks age' (without j order)
   tracks_emptied now order t = record {
-    places = all_kept_by _ (λ k. k < 16) order t.places;
-    used = still_used (without j order) (without_others j order) (all_kept_by _ (InUse age) order t.used);
-    falling = still_falling (without j order) (without_others j order) (Pairs-filter (Leads age) _ order t.falling);
+    places = All-filter _ (λ k. k < 16) order t.places;
+    used = still_used (without j order) (without_others j order) (All-filter _ (InUse age) order t.used);
+    falling = still_falling (without j order) (without_others j order) (AllPairs-filter (Leads age) _ order t.falling);
     whole = λ k l u.
-        ⊎_elim (λ e. absurd (false≢true (sym (ap is_some (ap age' e ∙ now)) ∙ u))) (λ o. has_without k j order o (t.whole k l (used_then k o u))) (cases_eq k j);
+        ⊎_elim (λ e. absurd (false≢true (sym (ap is_some (ap age' e ∙ now)) ∙ u))) (λ o. Contains-without k j order o (t.whole k l (used_then k o u))) (cases_eq k j);
   }
 
   -- the place was used
@@ -92,23 +88,21 @@ module _ (age age' : ℕ → Option ℕ) (j : ℕ) (older : (k : ℕ) → Other 
   tracks_used now lt order t =
       let left = without j order in
       let others = without_others j order in
-      let used = all_kept_by _ (InUse age) order t.used in
+      let used = All-filter _ (InUse age) order t.used in
       record {
-        places = All-push (λ k. k < 16) left j (all_kept_by _ (λ k. k < 16) order t.places) lt;
+        places = All-push (λ k. k < 16) left j (All-filter _ (λ k. k < 16) order t.places) lt;
         used = All-push (InUse age') left j (still_used left others used) (ap is_some now);
-        falling = Pairs-push (Leads age') left j
-            (still_falling left others (Pairs-filter (Leads age) _ order t.falling))
+        falling = all_pairs_push (Leads age') left j
+            (still_falling left others (AllPairs-filter (Leads age) _ order t.falling))
             (newest left others used);
         whole = λ k l u.
-            ⊎_elim (λ e. subst (ContainsAt (left ++ j ∷ [])) (sym e) (has_push left j)) (λ o. has_append_left left (j ∷ []) k (has_without k j order o (t.whole k l (used_then k o u)))) (cases_eq k j);
+            ⊎_elim (λ e. subst (Contains (left ++ j ∷ [])) (sym e) (Contains-push left j)) (λ o. Contains-append_left left (j ∷ []) k (Contains-without k j order o (t.whole k l (used_then k o u)))) (cases_eq k j);
       }
     where
-      newest : (xs : List ℕ) → AllByRecursion (λ k. Other k j) xs → AllByRecursion (InUse age) xs → AllByRecursion (λ k. Leads age' k j) xs
-      newest [] o u = tt
-      newest (x ∷ xs) (o, os) (u, us) = (
-        subst (λ a. Ahead x a j (age' j)) (sym (older x o)) (subst (λ a. Ahead x (later (age x)) j a) (sym now) (ahead_of_now x (age x) j u)),
-        newest xs os us,
-      )
+      newest : (xs : List ℕ) → All (λ k. Other k j) xs → All (InUse age) xs → (i d : ℕ) → i < length xs → Leads age' (get_or xs i d) j
+      newest xs o u i d l =
+          let x = get_or xs i d in
+          rw (older x (o i d l), now) (ahead_of_now x (age x) j (u i d l))
 
   -- the number names no place
   tracks_ignored : 16 ≤ j → (order : List ℕ) → Tracks age order → Tracks age' order
@@ -122,7 +116,7 @@ module _ (age age' : ℕ → Option ℕ) (j : ℕ) (older : (k : ℕ) → Other 
       }
 
 tracks : (ns : List Notice) → Tracks (used_ago ns) (order_by ns)
-tracks [] = record { places = tt; used = tt; falling = tt; whole = λ k l u. absurd (false≢true u) }
+tracks [] = record { places = λ i d l. absurd (omega arith); used = λ i d l. absurd (omega arith); falling = λ i j d lt l. absurd (omega arith); whole = λ k l u. absurd (false≢true u) }
 tracks (Used j ∷ ns) =
     let age' = used_ago (Used j ∷ ns) in
     let older : (k : ℕ) → Other k j → age' k ≡ later (used_ago ns k) = λ k o. cond-false (eqb j k) (Some 0) (later (used_ago ns k)) (ne_eqb j k (λ e. o (sym e))) in
@@ -141,15 +135,15 @@ tracks (Emptied j ∷ ns) =
 
 -- a member that is not in the order was not used, and one that was not used is not in the order
 module _ (age : ℕ → Option ℕ) (order : List ℕ) (t : Tracks age order) where
-  not_used : (k : ℕ) → k < 16 → (ContainsAt order k → ⊥) → age k ≡ None
+  not_used : (k : ℕ) → k < 16 → (Contains order k → ⊥) → age k ≡ None
   not_used k l absent = go (age k) refl
     where
       go : (a : Option ℕ) → age k ≡ a → a ≡ None
       go None e = refl
       go (Some n) e = absurd (absent (t.whole k l (ap is_some e)))
 
-  not_there : (k : ℕ) → age k ≡ None → ContainsAt order k → ⊥
-  not_there k e h = false≢true (sym (ap is_some e) ∙ all-has (InUse age) order k t.used h)
+  not_there : (k : ℕ) → age k ≡ None → Contains order k → ⊥
+  not_there k e h = false≢true (sym (ap is_some e) ∙ All-contains (InUse age) order k t.used h)
 
   -- the lowest of those that were not used
   unused_goes : (among k : ℕ) → Lowest (Fresh order among) (Some k) → (j : ℕ) → Member among j → Other j k → Leads age k j
@@ -165,21 +159,22 @@ module _ (age : ℕ → Option ℕ) (order : List ℕ) (t : Tracks age order) wh
       → (j : ℕ) → Member among j → Other j (get_or order i 0) → Leads age (get_or order i 0) j
   oldest_goes among i none ((l, m), before) j n apart = go (age j) refl
     where
-      behind : ContainsAt order j → Leads age (get_or order i 0) j
+      behind : Contains order j → Leads age (get_or order i 0) j
       behind (h, lh, at) =
+          let there : get_or order h 0 ≡ j = get_or_default order h 0 j lh ∙ at in
           ⊎_elim
-          (λ e. absurd (apart (sym (at 0) ∙ ap (λ x. get_or order x 0) e)))
+          (λ e. absurd (apart (sym there ∙ ap (λ x. get_or order x 0) e)))
           (⊎_elim
-          (λ lt. absurd (before h lt (lh, subst (Member among) (sym (at 0)) n)))
-          (λ gt. subst (Leads age (get_or order i 0)) (at 0) (Pairs-get_or (Leads age) order t.falling i h gt lh)))
+          (λ lt. absurd (before h lt (lh, subst (Member among) (sym there) n)))
+          (λ gt. subst (Leads age (get_or order i 0)) there (t.falling i h 0 gt lh)))
           (cases_order h i)
 
       go : (b : Option ℕ) → age j ≡ b → Leads age (get_or order i 0) j
       go None e = absurd (none j (n, not_there j e))
       go (Some b) e = behind (t.whole j n.0 (ap is_some e))
 
-pub longest_ago : (notices : List Notice) (policy : OldestUse) (among k : ℕ) → Since notices policy → FirstToGo (order_of policy) among (Some k) → LongestAgo notices among k
-longest_ago ns policy among k heard first =
+longest_ago : (notices : List Notice) (order : List ℕ) (among k : ℕ) → Since notices order → FirstToGo order among (Some k) → LongestAgo notices among k
+longest_ago ns order among k heard first =
     ⊎_elim
     (λ lowest. record {
       member = lowest.0.0;
@@ -193,46 +188,27 @@ longest_ago ns policy among k heard first =
     (subst (λ xs. FirstToGo xs among (Some k)) (heard_order heard) first)
 
 -- a use of each place of an order, one after the other, makes the order
-next_used : (xs : List ℕ) → Known xs → Apart xs → (n : ℕ) → n < length xs → take (n + 1) xs ≡ order_after (Used (get_or xs n 0)) (take n xs)
-next_used xs known apart n l =
+next_used : (xs : List ℕ) → IsOrder xs → (n : ℕ) → n < length xs → take (n + 1) xs ≡ order_after (Used (get_or xs n 0)) (take n xs)
+next_used xs order n l =
     let k : ℕ = get_or xs n 0 in
-    let new : AllByRecursion (λ j. Other j k) (take n xs) =
+    let new : All (λ j. Other j k) (take n xs) =
     All-from_get_or (λ j. Other j k) (take n xs) 0 (λ i il.
     let lt : i < n = omega (arith, length-take-le n xs (omega arith)) in
-    λ e. apart i n lt l (sym (get_or-take n xs i 0 lt) ∙ e)) in
-    take_more xs n 0 l ∙ sym (cond-true (ltb k 16) (without k (take n xs) ++ k ∷ []) (take n xs) (lt-ltb k 16 (known n l)) ∙ ap (λ ys. ys ++ k ∷ []) (without_absent k (take n xs) new))
+    λ e. order.apart i n 0 lt l (sym (get_or-take n xs i 0 lt) ∙ e)) in
+    take_more xs n 0 l ∙ sym (cond-true (ltb k 16) (without k (take n xs) ++ k ∷ []) (take n xs) (lt-ltb k 16 (order.known n 0 l)) ∙ ap (λ ys. ys ++ k ∷ []) (without_absent k (take n xs) new))
 
--- so every policy has heard some notices
-module _ (policy : OldestUse) where
-  -- the policy with the first n places of the order
-  up_to : (n : ℕ) → n ≤ policy.used → OldestUse
-  up_to n le = record {
-    places = policy.places;
-    used = n;
-    wide = policy.wide;
-    few = omega (arith, policy.few);
-    known = subst Known (take-take n policy.used policy.places le) (Known-take n (order_of policy) policy.known);
-    apart = subst Apart (take-take n policy.used policy.places le) (Apart-take n (order_of policy) policy.apart);
-  }
+-- so every order comes of some notices
+some_notices : (order : List ℕ) → IsOrder order → (notices : List Notice) × Since notices order
+some_notices order good = subst (λ xs. (notices : List Notice) × Since notices xs) (take_all (length order) order (omega arith)) (up_to (length order) (omega arith))
+  where
+    up_to : (n : ℕ) → n ≤ length order → (notices : List Notice) × Since notices (take n order)
+    up_to zero le = ([], nothing refl)
+    up_to (suc n) le =
+        let k : ℕ = get_or order n 0 in
+        let before = up_to n (omega arith) in
+        let e : take (suc n) order ≡ order_after (Used k) (take n order) = ap (λ m. take m order) (sym (add-one n)) ∙ next_used order good n (omega arith) in
+        (Used k ∷ before.0, one_more (Used k) before.1 (record { order = e; ignored = λ far. absurd (omega (arith, good.known n 0 (omega arith))) }))
 
-  order_of-up_to : (n : ℕ) (le : n ≤ policy.used) → order_of (up_to n le) ≡ take n (order_of policy)
-  unfolding up_to
-  order_of-up_to n le = sym (take-take n policy.used policy.places le)
-
-  used_up_to : (n : ℕ) (le : n ≤ policy.used) → (notices : List Notice) × Since notices (up_to n le)
-  used_up_to zero le = ([], nothing (order_of-up_to zero le))
-  used_up_to (suc n) le =
-      let k : ℕ = get_or (order_of policy) n 0 in
-      let l : n < length (order_of policy) = omega (arith, length-take-le policy.used policy.places (omega (arith, policy.few, policy.wide))) in
-      let lt : k < 16 = policy.known n l in
-      let before = used_up_to n (omega arith) in
-      let e : order_of (up_to (suc n) le) ≡ order_after (Used k) (order_of (up_to n (omega arith))) =
-      order_of-up_to (suc n) le ∙ ap (λ m. take m (order_of policy)) (sym (add-one n)) ∙ next_used (order_of policy) policy.known policy.apart n l
-      ∙ ap (order_after (Used k)) (sym (order_of-up_to n (omega arith))) in
-      (Used k ∷ before.0, one_more (Used k) before.1 (record { order = e; ignored = λ far. absurd (omega arith) }))
-
-  pub some_notices : (notices : List Notice) × Since notices policy
-  unfolding up_to
-  some_notices =
-      let whole = used_up_to policy.used (omega arith) in
-      (whole.0, asked {among = 0} {r = None} whole.1 (record { member = λ k m. omega (arith, shr_le 0 k, m.1); order = refl }))
+pub takes_longest_ago : (order : List ℕ) (among : ℕ) (r : Option ℕ) → IsOrder order → FirstToGo order among r → TakesLongestAgo order among r
+takes_longest_ago order among None good first = tt
+takes_longest_ago order among (Some k) good first = (some_notices order good, λ notices since. longest_ago notices order among k since first)

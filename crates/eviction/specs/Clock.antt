@@ -1,10 +1,14 @@
 -- The clock's rule: what the hand and the marks are after a notice, and how the hand comes to a choice.
-use Rattle.std.specs.Prelude.{◌≡◌, ℕ, ◌+◌, ◌-◌, ◌%◌, ◌<◌, ◌≤◌, Bool, true, false, ◌⊎◌, List, Some, None, Option, slice_index_or, slice_set}
-use Rattle.eviction.specs.declared.clock.Clock.{Clock}
+use Rattle.std.specs.Prelude.{◌≡◌, ℕ, ◌+◌, ◌-◌, ◌%◌, ◌<◌, ◌≤◌, Bool, true, false, ◌⊎◌, List, Some, None, Option, IfSome, slice_index_or, slice_set}
 use Rattle.eviction.specs.declared.notice.Notice.{Notice}
 use Rattle.eviction.specs.declared.notice.Notice.TheVariants.{Used, Emptied}
 use Rattle.eviction.specs.Places.{Member, Empty}
 use Rattle.eviction.specs.Policy.{place_of}
+
+-- What a clock keeps: the place that its hand looks at next, and of each place whether it has a mark.
+pub record Face : Type 0 where
+  pub hand : ℕ
+  pub marks : List Bool
 
 -- the place after k; after 15 comes 0
 abbrev pub next : ℕ → ℕ
@@ -16,7 +20,7 @@ marks_after (Used k) marks = slice_set marks k true
 marks_after (Emptied k) marks = slice_set marks k false
 
 -- A notice changes one mark and leaves the hand.
-pub record Told (clock : Clock) (notice : Notice) (clock' : Clock) : Type 0 where
+pub record Told (clock : Face) (notice : Notice) (clock' : Face) : Type 0 where
   pub hand : clock'.hand ≡ clock.hand
   pub marks : clock'.marks ≡ marks_after notice clock.marks
   pub ignored : 16 ≤ place_of notice → clock'.marks ≡ clock.marks
@@ -31,7 +35,7 @@ pub data Sweeps (among : ℕ) : ℕ → List Bool → ℕ → List Bool → Type
       → Sweeps among (next hand) marks k marks' → Sweeps among hand marks k marks'
 
 -- A choice ends such a search, with the hand left at the place after it. Among no members nothing moves.
-abbrev pub Chosen : Clock → ℕ → Option ℕ → Clock → Type 0
+abbrev pub Chosen : Face → ℕ → Option ℕ → Face → Type 0
 Chosen clock among None clock' = Empty among × (clock'.hand ≡ clock.hand) × (clock'.marks ≡ clock.marks)
 Chosen clock among (Some k) clock' = Sweeps among clock.hand clock.marks k clock'.marks × (clock'.hand ≡ next k)
 
@@ -65,6 +69,5 @@ SecondChance among hand marks k marks' =
     ⊎ (((j : ℕ) → Unmarked among marks j → ⊥) × First hand (Member among) k × Cleared (Member among) marks marks')
 
 -- the same of the clock before and after a choice
-abbrev pub GivesSecondChance : Clock → ℕ → Option ℕ → Clock → Type 0
-GivesSecondChance clock among None clock' = Unit {0}
-GivesSecondChance clock among (Some k) clock' = SecondChance among clock.hand clock.marks k clock'.marks
+abbrev pub GivesSecondChance : Face → ℕ → Option ℕ → Face → Type 0
+GivesSecondChance clock among r clock' = IfSome r (λ k. SecondChance among clock.hand clock.marks k clock'.marks)

@@ -1,7 +1,6 @@
 -- What every policy promises, and what a caller promises to tell it.
-use Rattle.std.specs.Prelude.{◌≡◌, ℕ, List, [], ◌∷◌, map, Some, None, Option}
+use Rattle.std.specs.Prelude.{◌≡◌, ℕ, List, [], ◌∷◌, map, Some, None, Option, All, Contains}
 use Rattle.std.specs.List.Sorted.{IsStrictlyIncreasing}
-use Rattle.std.specs.List.{ContainsAt, AllByRecursion}
 use Rattle.eviction.specs.declared.notice.Notice.{Notice}
 use Rattle.eviction.specs.declared.notice.Notice.TheVariants.{Used, Emptied}
 use Rattle.eviction.specs.Places.{Member, Empty}
@@ -30,8 +29,8 @@ pub data Heard {P : Type 0} (New : P → Type 0) (told : P → Notice → P → 
 -- These are the numbers of which P holds, each once, from lower to higher.
 pub record InTurn (P : ℕ → Type 0) (ks : List ℕ) : Type 0 where
   pub rising : IsStrictlyIncreasing ks
-  pub each : AllByRecursion P ks
-  pub whole : (k : ℕ) → P k → ContainsAt ks k
+  pub each : All P ks
+  pub whole : (k : ℕ) → P k → Contains ks k
 
 -- The policy is told that the places of which `Gone` holds were emptied, once each, in ascending order.
 abbrev pub ToldEmptied : {P : Type 0} → (P → Notice → P → Type 0) → P → (ℕ → Type 0) → P → Type 0

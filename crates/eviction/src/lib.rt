@@ -3,7 +3,7 @@
 #![tactic(auto)]
 
 mod clock;
-mod either;
+mod either_policy;
 mod notice;
 mod oldest_use;
 mod order;

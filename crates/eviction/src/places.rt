@@ -2,14 +2,14 @@
 // There are sixteen places, 0 to 15. A set of them is a number of 16 bits, whose bit of value 2^k says whether place k is in.
 
 ghost use Rattle.eviction.specs.Places.{Member};
-ghost use Rattle.std.specs.Prelude.{Decides};
+ghost use Rattle.std.specs.Prelude.{◌↔◌, IsTrue};
 
 // how many places a cache has
 pub const PLACES: u8 = 16;
 
 // Whether a place is a member of a set; a number from 16 on never is.
 pub fn contains(places: u16, place: u8) -> bool
-    ensures { Decides result (Member places place) }
+    ensures { IsTrue result ↔ Member places place }
 {
     place < PLACES && (places >> place) % 2 == 1
 }

@@ -1,7 +1,7 @@
 // Runs of the clock. A set is written with place 0 at the right.
 
 use crate::runs::Step::{Choose, Empty, Use};
-use crate::runs::{ALL, Step, follow};
+use crate::runs::{ALL, Step, follow_each};
 use eviction::Clock;
 
 const RUNS: [(&str, &[Step]); 10] = [
@@ -113,7 +113,5 @@ const RUNS: [(&str, &[Step]); 10] = [
 
 #[test]
 fn clock_gives_second_chances(rt: HostRuntime) {
-    for (what, run) in RUNS {
-        follow(&rt, &mut Clock::new(), what, run);
-    }
+    follow_each(&rt, Clock::new, &RUNS);
 }

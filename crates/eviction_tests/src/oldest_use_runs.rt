@@ -1,7 +1,7 @@
 // Runs of the policy of oldest use. A set is written with place 0 at the right.
 
 use crate::runs::Step::{Choose, Empty, Use};
-use crate::runs::{ALL, Step, follow};
+use crate::runs::{ALL, Step, follow_each};
 use eviction::{Notice, OldestUse, Policy};
 
 const RUNS: [(&str, &[Step]); 8] = [
@@ -107,9 +107,7 @@ const RUNS: [(&str, &[Step]); 8] = [
 
 #[test]
 fn oldest_use_goes_first(rt: HostRuntime) {
-    for (what, run) in RUNS {
-        follow(&rt, &mut OldestUse::new(), what, run);
-    }
+    follow_each(&rt, OldestUse::new, &RUNS);
 }
 
 // More uses than a count of 16 bits has numbers: one that wrapped or stood still would lose the order on the way.

@@ -6,6 +6,7 @@ use std::process::Abort;
 // every place
 pub(crate) const ALL: u16 = 0xffff;
 
+// A step is data and no closure, so that a table of runs is a constant that reads like the rules.
 #[derive(Clone, Copy)]
 pub(crate) enum Step {
     // these places are used, one after the other
@@ -34,5 +35,18 @@ pub(crate) fn follow<P: Policy>(rt: &impl Abort, policy: &mut P, what: &str, run
                 assert_eq!(rt; policy.choose(among), expected, "{what}");
             }
         }
+    }
+}
+
+// Takes a new policy through each of these runs.
+pub(crate) fn follow_each<P: Policy + Drop, F: Fn() -> P>(
+    rt: &impl Abort,
+    new: F,
+    runs: &[(&str, &[Step])],
+)
+    requires { F.IsAlwaysCallable new }
+{
+    for (what, run) in runs {
+        follow(rt, &mut new(), what, run);
     }
 }

@@ -5,12 +5,7 @@ ghost use Rattle.eviction.specs.Either.{Held};
 
 use crate::notice::Notice;
 use crate::policy::Policy;
-
-#[derive(Drop)]
-pub enum Either<A, B> {
-    Left(A),
-    Right(B),
-}
+use either::Either;
 
 impl<A: Policy, B: Policy> Policy for Either<A, B> {
     ghost told = { λ p n q. Held (λ a a'. A.Policy.told a n a') (λ b b'. B.Policy.told b n b') p q };
