@@ -7,7 +7,7 @@ ghost use Rattle.eviction.specs.Clock.{next, Chosen, GivesSecondChance, Told};
 ghost use Rattle.eviction.specs.Policy.{Chooses};
 
 use crate::notice::Notice;
-use crate::places::{PLACES, contains};
+use crate::places::{PLACES, ROOM, contains};
 use crate::policy::Policy;
 use std::marker::Model;
 use std::mem::replace;
@@ -17,7 +17,7 @@ pub struct Clock {
     // the place that is looked at next
     hand: u8,
     // for each place, whether it was used since it was last emptied and since the hand last cleared its mark
-    marks: [bool; PLACES as usize],
+    marks: [bool; ROOM],
 }
 
 impl Model for Clock {
@@ -39,7 +39,7 @@ impl Clock {
     {
         Clock {
             hand: 0,
-            marks: [false; PLACES as usize],
+            marks: [false; ROOM],
         }
     }
 

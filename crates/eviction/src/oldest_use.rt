@@ -11,13 +11,10 @@ ghost use Rattle.eviction.specs.Policy.{Chooses};
 
 use crate::notice::Notice;
 use crate::order::first_to_go;
-use crate::places::PLACES;
+use crate::places::{PLACES, ROOM};
 use crate::policy::Policy;
 use arrayvec::ArrayVec;
 use std::marker::Model;
-
-// room for each place once
-const ROOM: usize = PLACES as usize;
 
 #[derive(Drop)]
 pub struct OldestUse {

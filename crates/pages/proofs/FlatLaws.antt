@@ -5,7 +5,7 @@ use Rattle.std.proofs.lemmas.List.Elements.{All-from_recursion}
 use Rattle.pages.specs.Store.{Shaped}
 use Rattle.pages.specs.Pieces.{piece, pieces, overwritten}
 use Rattle.pages.specs.Flat.{flat_count, flat_pages}
-use Rattle.pages.proofs.Pieces.{length-pieces, get_or-pieces, length-piece, pieces-overwritten, whole_piece_fits, length-overwritten_piece}
+use Rattle.pages.proofs.Pieces.{length-pieces, get_or-pieces, length-piece, pieces-overwritten, whole_piece_fits, length-overwritten_piece, past_last-overwritten}
 
 pub length-flat_pages : (memory : List ℕ) → length (flat_pages memory) ≡ flat_count (length memory)
 length-flat_pages memory = length-pieces 64 (flat_count (length memory)) memory
@@ -30,4 +30,4 @@ flat_pages-overwritten memory p bytes wide lt =
     ap (λ n. pieces 64 (flat_count n) (overwritten memory (64 * p) bytes)) (length-overwritten_piece 64 4096 p memory bytes wide lt)
     ∙ pieces-overwritten 64 p memory bytes wide (whole_piece_fits 64 4096 p (length memory) lt) (flat_count (length memory)) lt
 
-pub ruleset flat_laws = (length-flat_pages, get_or-flat_pages, flat_shaped, flat_pages-overwritten)
+pub ruleset flat_laws = (length-flat_pages, get_or-flat_pages, flat_pages-overwritten, past_last-overwritten)

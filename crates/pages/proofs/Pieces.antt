@@ -6,7 +6,7 @@ use Rattle.std.proofs.lemmas.List.{length-take, length-drop, length-append, leng
 use Rattle.std.proofs.lemmas.Slice.{take-put_mid_below, drop-put_mid}
 use Rattle.std.proofs.lemmas.Bool.{cases_eq, cases_order}
 use Rattle.std.specs.Simd.{first_chunks}
-use Rattle.pages.specs.Pieces.{piece, pieces, overwritten, whole_pieces}
+use Rattle.pages.specs.Pieces.{piece, pieces, overwritten, whole_pieces, past_last}
 
 -- a piece ends where the next begins
 pub piece_ends : (width k j : ℕ) → k < j → width * k + width ≤ width * j
@@ -110,3 +110,12 @@ pub length-overwritten_piece : (width most k : ℕ) (memory bytes : List ℕ) �
     → length (overwritten memory (width * k) bytes) ≡ length memory
 length-overwritten_piece width most k memory bytes wide lt =
     length-overwritten (width * k) memory bytes (omega (arith, wide, whole_piece_fits width most k (length memory) lt))
+
+-- a write of a whole piece leaves the bytes past the last one
+pub past_last-overwritten : (width most k : ℕ) (memory bytes : List ℕ) → length bytes ≡ width → k < whole_pieces width most (length memory)
+    → past_last width most (overwritten memory (width * k) bytes) ≡ past_last width most memory
+past_last-overwritten width most k memory bytes wide lt =
+    let count = whole_pieces width most (length memory) in
+    ap (λ n. drop (width * whole_pieces width most n) (overwritten memory (width * k) bytes)) (length-overwritten_piece width most k memory bytes wide lt)
+    ∙ ap (drop (width * count)) (sym (put_mid-overwritten (width * k) width memory bytes wide))
+    ∙ drop-put_mid (width * k) width memory bytes (width * count) (piece_ends width k count lt) (omega (arith, whole_piece_fits width most k (length memory) lt)) wide

@@ -7,6 +7,7 @@ use crate::store::{MOST_PAGES, PAGE_BYTES, Page, PageStore, check_page};
 
 #[derive(Drop)]
 pub struct FlatStore<'a> {
+    // The store has no model of its pages, since what a lender is told hangs on this reference, which a value cannot hold.
     memory: &'a mut [u8],
 }
 

@@ -5,6 +5,7 @@ ghost use Rattle.std.specs.Prelude.{◌≡◌, ◌+◌, ◌*◌, ◌<◌, ◌≤
 ghost use Rattle.pages.specs.Pieces.{piece, overwritten, whole_pieces};
 
 // How many whole pieces a memory holds, at most `most`.
+// The cast is proved to lose nothing, where `try_from` would answer an error that cannot come.
 pub(crate) fn count_pieces<const WIDTH: usize>(memory: &[u8], most: usize) -> u16
     requires wide { 0 < WIDTH }
     requires few { most < 65536 }

@@ -40,6 +40,7 @@ fn exports<S: PageStore>(rt: &(impl Abort + AllocGlobal), store: &S) -> Result<(
     Ok(())
 }
 
+// One test for each store, since a test is known by its name: the checks are `exports`, and what is left differs.
 #[test]
 fn flat_store_is_exported(rt: HostRuntime) -> Result<(), Fail> {
     let mut memory = [0; 200];

@@ -36,6 +36,7 @@ fn refuses<S: PageStore>(rt: &(impl Abort + AllocGlobal), store: &mut S) -> Resu
     Ok(())
 }
 
+// One test for each store, since a test is known by its name: the checks are `refuses`, and what is left differs.
 #[test]
 fn flat_store_refuses_by_length_first(rt: HostRuntime) -> Result<(), Fail> {
     let mut memory = [0; 130];

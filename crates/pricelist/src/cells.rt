@@ -30,7 +30,7 @@ impl TryFrom<&str> for Cell {
 }
 
 impl Cell {
-    // What a cell shows: its bytes without the spaces behind them.
+    // What a cell shows: its bytes without the spaces behind them. It is no `Display`, since bytes that are no text are an error.
     pub(crate) fn text(&self) -> Result<&str, Utf8Error> {
         Ok(std::str::from_utf8(&self.0)?.trim_end())
     }
