@@ -17,6 +17,7 @@ fn one_page_and_a_tail(rt: HostRuntime) {
 
 #[test]
 fn page_p_lies_at_byte_64_p(rt: HostRuntime) {
+    // The cast is proved to lose nothing, where `try_from` would answer an error that cannot come.
     let mut memory: [u8; 197] = array::from_fn(|at| (at % 251) as u8);
     let mut expected = memory;
     let mut store = FlatStore::new(&mut memory);
