@@ -7,4 +7,3 @@ pub mod SlotLaws
 pub mod Compacting
 pub mod LastOfEach
 pub mod LogLaws
-pub mod BookLaws

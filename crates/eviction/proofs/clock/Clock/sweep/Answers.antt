@@ -1,12 +1,9 @@
 use Rattle.std.proofs.Common.{sym, ◌∙◌, arith}
 use Rattle.std.proofs.lemmas.Bool.{iff_false}
 use Rattle.eviction.proofs.Sweeping.{sweeps_member, second_chance}
-use Rattle.eviction.proofs.Turning.{turned_none, turned_pass, turned_clear, turned_take, turned_all}
+use Rattle.eviction.proofs.Turning.{turned_pass, turned_clear, turned_take, turned_all}
 use Rattle.eviction.proofs.clock.Clock.sweep.Goals as goal
 use Rattle.eviction.proofs.clock.Clock.sweep.Goals.{else-contains-via-then-contains+else-not-unmark, else-contains-via-else-contains}
-
-pub loop-step-init : goal.loop-step-init
-loop-step-init c = turned_none c.args.among c.self.inside.hand c.self.inside.marks c.self.invariant.0 c.self.invariant.1
 
 pub returns-then-not-unmark : goal.returns-then-not-unmark
 returns-then-not-unmark c =

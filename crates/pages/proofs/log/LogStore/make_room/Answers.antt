@@ -4,9 +4,6 @@ use Rattle.pages.specs.LogView.{memory_of}
 use Rattle.pages.proofs.LogLaws.{length-log_pages, room_left, room_made, compact_few, compact_known}
 use Rattle.pages.proofs.log.LogStore.make_room.Goals as goal
 
-pub compact-self-requires-clause-known : goal.compact-self-requires-clause-known
-compact-self-requires-clause-known c = λ k lt. omega (arith, c.args.self.now.known k lt, c.args.self.now.wide)
-
 pub invariant_of-self : goal.invariant_of-self
 invariant_of-self c =
     let old = c.args.self.now in

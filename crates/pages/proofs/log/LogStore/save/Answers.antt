@@ -6,18 +6,6 @@ use Rattle.pages.proofs.LogLaws.{length-log_pages, log_laid, log_write, with_roo
 use Rattle.pages.proofs.SlotLaws.{length-records_in}
 use Rattle.pages.proofs.log.LogStore.save.Goals as goal
 
-pub append-requires : goal.append-requires
-append-requires c =
-    let old = c.args.self.now in
-    let new = c.make_room.new.self in
-    let was = length-log_pages old.filled (memory_of old) in
-    let is = length-log_pages new.filled (memory_of new) in
-    let size = c.make_room.ensures.memory.size in
-    record {
-      there = omega (arith, c.in_ok-check_page.ensures);
-      room = c.make_room.ensures.room (omega (arith, c.in_ok-check_page.ensures));
-    }
-
 pub returns-clause-pages : goal.returns-clause-pages
 returns-clause-pages c =
     let old = c.args.self.now in
