@@ -24,11 +24,10 @@ impl From<&Slot> for Record {
     ghost from_gives = { λ slot r. r ≡ decoded slot.now };
 
     fn from(slot: &Slot) -> Record {
-        let mut bytes = [0; PAGE_BYTES];
-        bytes.copy_from_slice(&slot[PAGE_AT..]);
+        let [low, high, ..] = *slot;
         Record {
-            page: u16::from_le_bytes([slot[0], slot[1]]),
-            bytes,
+            page: u16::from_le_bytes([low, high]),
+            bytes: *slot.last_chunk().unwrap(),
         }
     }
 }
