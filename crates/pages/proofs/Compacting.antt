@@ -10,7 +10,7 @@ use Rattle.pages.specs.Records.{blank, after, last_place, unless_later, compacte
 use Rattle.pages.specs.Log.{encoded, decoded, records_in, Exact, Known, Indexes}
 use Rattle.pages.proofs.Pieces.{length-piece, piece-overwritten_other, put_mid-overwritten}
 use Rattle.pages.proofs.RecordLaws.{either, last_place_push}
-use Rattle.pages.proofs.SlotLaws.{length-records_in, get_or-records_in, records_put, slots_put}
+use Rattle.pages.proofs.SlotLaws.{length-records_in, get_or-records_in, records_put, slots_put, noted, last_place-put}
 
 -- the place of a page's last record while slots from i on are ahead: there if one names the page, else among those kept
 abbrev merged : ℕ → Option ℕ → Option ℕ → Option ℕ
@@ -133,27 +133,21 @@ module _ (start : List ℕ) (n i kept : ℕ) (memory : List ℕ) (last : List (O
         exact = slots_put kept memory (piece 66 memory i) wide room (λ (x : List ℕ). x ≡ encoded (decoded x)) s.exact
             (subst (λ (x : List ℕ). x ≡ encoded (decoded x)) (sym (s.ahead i (omega arith) lt)) (exact i lt));
         index = λ p.
-            ⊎_elim
-            (λ e.
-            ap (λ q. get_or (set last r.page (Some kept)) q None) e ∙ get_or-set_same last r.page (Some kept) None inside
-            ∙ sym (ap (λ o. merged (i + 1) o (last_place (records_in (kept + 1) (overwritten memory (66 * kept) (piece 66 memory i))) p)) (ap (last_place rest) e ∙ none)
-            ∙ ap (λ rs. last_place rs p) put ∙ last_place_push (records_in kept memory) r p
-            ∙ ap (λ b. cond b (Some (length (records_in kept memory))) (last_place (records_in kept memory) p)) (eq-eqb r.page p (sym e))
-            ∙ ap Some (length-records_in kept memory)))
-            (λ apart.
-            let other : eqb r.page p ≡ false = ne_eqb r.page p (λ e. apart (sym e)) in
-            get_or-set_other last r.page p (Some kept) None apart ∙ found p
-            ∙ ap (λ b. merged i (after b (last_place rest p)) (last_place (records_in kept memory) p)) other
-            ∙ shifted false (last_place rest p) (last_place (records_in kept memory) p) (λ f e. both_ways false refl f)
-            ∙ ap (merged (i + 1) (last_place rest p))
-            (sym (ap (λ rs. last_place rs p) put ∙ last_place_push (records_in kept memory) r p
-            ∙ ap (λ b. cond b (Some (length (records_in kept memory))) (last_place (records_in kept memory) p)) other)))
-            (cases_eq p r.page);
+            noted kept memory (piece 66 memory i) wide room last inside p
+            ∙ pick p (eqb r.page p) refl
+            ∙ ap (merged (i + 1) (last_place rest p)) (sym (last_place-put kept memory (piece 66 memory i) wide room last inside p));
         past =
             ap (drop (66 * n)) (sym (put_mid-overwritten (66 * kept) 66 memory (piece 66 memory i) wide))
             ∙ drop-put_mid (66 * kept) 66 memory (piece 66 memory i) (66 * n) (omega (arith, s.below)) (omega (arith, s.below)) wide
             ∙ s.past;
       }
+    where
+      pick : (p : ℕ) (here : Bool) → eqb r.page p ≡ here
+          → cond here (Some kept) (get_or last p None) ≡ merged (i + 1) (last_place rest p) (cond here (Some kept) (last_place (records_in kept memory) p))
+      pick p true e = ap (λ o. merged (i + 1) o (Some kept)) (sym (ap (last_place rest) (sym (eqb-true r.page p e)) ∙ none))
+      pick p false e =
+          found p ∙ ap (λ b. merged i (after b (last_place rest p)) (last_place (records_in kept memory) p)) e
+          ∙ shifted false (last_place rest p) (last_place (records_in kept memory) p) (λ f n. both_ways false refl f)
 
   -- the two ways through the loop's body, over the values that it leaves
   pub turn_moved : (page : ℕ) → page ≡ (decoded (piece 66 memory i)).page → get_or last page None ≡ Some i

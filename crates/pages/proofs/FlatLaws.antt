@@ -1,7 +1,6 @@
 -- The flat store's pages by its memory: where they lie, and what a write of one leaves.
 use Rattle.std.proofs.Common.{◌≡◌, ℕ, ◌*◌, ◌<◌, List, [], length, get_or, set, ap, ◌∙◌, arith}
-use Rattle.std.proofs.ByRecursion.{All-from_get_or}
-use Rattle.std.proofs.lemmas.List.Elements.{All-from_recursion}
+use Rattle.std.proofs.lemmas.List.Elements.{All-from_get_or}
 use Rattle.pages.specs.Store.{Shaped}
 use Rattle.pages.specs.Pieces.{piece, pieces, overwritten}
 use Rattle.pages.specs.Flat.{flat_count, flat_pages}
@@ -17,11 +16,10 @@ pub flat_shaped : (memory : List ℕ) → Shaped (flat_pages memory)
 flat_shaped memory = record {
   few = omega (arith, length-flat_pages memory);
   wide =
-      All-from_recursion (λ (page : List ℕ). length page ≡ 64) (flat_pages memory)
-      (All-from_get_or (λ (page : List ℕ). length page ≡ 64) (flat_pages memory) []
+      All-from_get_or (λ (page : List ℕ). length page ≡ 64) (flat_pages memory) []
       (λ p l.
       let lt : p < flat_count (length memory) = omega (arith, length-flat_pages memory) in
-      ap length (get_or-flat_pages memory p lt) ∙ length-piece 64 p memory (whole_piece_fits 64 4096 p (length memory) lt)));
+      ap length (get_or-flat_pages memory p lt) ∙ length-piece 64 p memory (whole_piece_fits 64 4096 p (length memory) lt));
 }
 
 pub flat_pages-overwritten : (memory : List ℕ) (p : ℕ) (bytes : List ℕ) → length bytes ≡ 64 → p < flat_count (length memory)

@@ -1,22 +1,22 @@
 -- The log store's pages by its filled slots: what they are, and what an append and a compaction leave.
-use Rattle.std.proofs.Common.{◌≡◌, ℕ, ◌+◌, ◌-◌, ◌*◌, ◌<◌, ◌≤◌, Bool, true, false, cond, eqb, List, [], ◌∷◌, ◌++◌, length, get_or, take, drop, set, Some, None, Option, sym, refl, ap, ◌∙◌, subst, inl, inr, ⊎_elim, zero-add, arith}
+use Rattle.std.proofs.Common.{◌≡◌, ℕ, ◌+◌, ◌-◌, ◌*◌, ◌<◌, ◌≤◌, cond, eqb, List, [], ◌∷◌, ◌++◌, length, get_or, take, drop, set, Some, None, Option, sym, ap, ◌∙◌, subst, ⊎_elim, zero-add, arith}
 use Rattle.std.specs.List.{AllByRecursion}
 use Rattle.std.proofs.lemmas.List.FromFn.{length-map-range_with_len, get_or-map-range_with_len}
-use Rattle.std.proofs.ByRecursion.{All-from_get_or}
-use Rattle.std.proofs.lemmas.List.Elements.{All-from_recursion}
+use Rattle.std.proofs.lemmas.List.Elements.{All-from_get_or}
 use Rattle.std.proofs.lemmas.List.{ext_get_or, length-drop, length-set, get_or-set_same, get_or-set_other}
-use Rattle.std.proofs.lemmas.Bool.{cases_eq, eq-eqb, eqb-true, eqb-false, ne_eqb}
+use Rattle.std.proofs.lemmas.Bool.{cases_eq, eq-eqb, ne_eqb}
 use Rattle.pages.specs.Store.{Shaped}
 use Rattle.pages.specs.Pieces.{piece, overwritten}
 use Rattle.pages.specs.declared.record.Record.{Record}
+use Rattle.pages.specs.declared.log.LogStore.{LogStore}
+use Rattle.pages.specs.LogView.{memory_of, pages_of}
 use Rattle.pages.specs.Records.{blank, record_at, bytes_at, last_place, content, compacted, Content, Located}
-use Rattle.pages.specs.Log.{slots_in, log_count, encoded, decoded, records_in, log_pages, Exact, Known, Indexes, LaidOut, RoomMade, with_room}
+use Rattle.pages.specs.Log.{slots_in, log_count, encoded, decoded, records_in, log_pages, Exact, Known, Indexes, LaidOut}
 use Rattle.pages.proofs.Pieces.{length-piece, length-overwritten_piece, whole_piece_fits}
-use Rattle.pages.proofs.LastOfEach.{compacted_last}
 use Rattle.pages.proofs.OneEach.{compacted_few}
 use Rattle.pages.proofs.RecordBytes.{decoded-encoded, length-encoded}
 use Rattle.pages.proofs.RecordLaws.{either, last_place_is, last_place_located, last_place_push, content_is, content_push, content-compacted, All-compacted}
-use Rattle.pages.proofs.SlotLaws.{length-records_in, get_or-records_in, records_put, slots_put, exact_laid, All-from_Known, Known-from_All}
+use Rattle.pages.proofs.SlotLaws.{length-records_in, get_or-records_in, records_put, slots_put, noted, last_place-put, exact_laid, All-from_Known, Known-from_All}
 
 pub length-log_pages : (filled : ℕ) (memory : List ℕ) → length (log_pages filled memory) ≡ log_count (length memory)
 length-log_pages filled memory = length-map-range_with_len (content (records_in filled memory)) 0 (log_count (length memory))
@@ -47,34 +47,28 @@ module _ (filled : ℕ) (memory : List ℕ) (few : filled ≤ slots_in (length m
   log_shaped = record {
     few = omega (arith, length-log_pages filled memory);
     wide =
-        All-from_recursion (λ (page : List ℕ). length page ≡ 64) (log_pages filled memory)
-        (All-from_get_or (λ (page : List ℕ). length page ≡ 64) (log_pages filled memory) [] (λ p lt. ap length (log_at filled memory p (omega (arith, length-log_pages filled memory))) ∙ content_wide p));
+        All-from_get_or (λ (page : List ℕ). length page ≡ 64) (log_pages filled memory) [] (λ p lt. ap length (log_at filled memory p (omega (arith, length-log_pages filled memory))) ∙ content_wide p);
   }
+
+pub store_shaped : (store : LogStore) → Shaped (pages_of store)
+store_shaped store = log_shaped store.filled (memory_of store) store.few
 
 -- exact slots are the records in the layout
 pub log_laid : (filled : ℕ) (memory : List ℕ) → Exact filled memory → LaidOut memory (records_in filled memory)
 log_laid filled memory exact = ap (λ n. take (66 * n) memory) (length-records_in filled memory) ∙ exact_laid filled memory exact
 
-content-with_room : (slots : ℕ) (rs : List Record) (p : ℕ) → content (with_room slots rs) p ≡ content rs p
-content-with_room slots rs p = pick (eqb (length rs) slots)
-  where
-    pick : (b : Bool) → content (cond b (compacted rs) rs) p ≡ content rs p
-    pick true = content-compacted rs p
-    pick false = refl
-
 -- one more record sets its page, and no other
-pub log_write : (slots filled filled' : ℕ) (memory memory' : List ℕ) (r : Record) → length memory' ≡ length memory → r.page < log_count (length memory)
-    → records_in filled' memory' ≡ with_room slots (records_in filled memory) ++ r ∷ []
+pub log_pages-push : (filled filled' : ℕ) (memory memory' : List ℕ) (r : Record) → length memory' ≡ length memory → r.page < log_count (length memory)
+    → records_in filled' memory' ≡ records_in filled memory ++ r ∷ []
     → log_pages filled' memory' ≡ set (log_pages filled memory) r.page r.bytes
-log_write slots filled filled' memory memory' r same inside appended =
+log_pages-push filled filled' memory memory' r same inside appended =
     ext_get_or [] (log_pages filled' memory') (set (log_pages filled memory) r.page r.bytes)
     (size ∙ sym (length-log_pages filled memory) ∙ sym (length-set (log_pages filled memory) r.page r.bytes))
     (λ q l0.
     let l : q < log_count (length memory) = omega (arith, size) in
     let l' : q < log_count (length memory') = omega (arith, length-log_pages filled' memory') in
     log_at filled' memory' q l' ∙ ap (λ rs. content rs q) appended
-    ∙ content_push (with_room slots (records_in filled memory)) r q
-    ∙ ap (cond (eqb r.page q) r.bytes) (content-with_room slots (records_in filled memory) q)
+    ∙ content_push (records_in filled memory) r q
     ∙ ⊎_elim
     (λ e.
     ap (λ b. cond b r.bytes (content (records_in filled memory) q)) (eq-eqb r.page q (sym e))
@@ -87,6 +81,17 @@ log_write slots filled filled' memory memory' r same inside appended =
   where
     size : length (log_pages filled' memory') ≡ log_count (length memory)
     size = length-log_pages filled' memory' ∙ ap log_count same
+
+-- the last record of each page leaves every page
+pub log_pages-compacted : (filled filled' : ℕ) (memory memory' : List ℕ) → length memory' ≡ length memory
+    → records_in filled' memory' ≡ compacted (records_in filled memory) → log_pages filled' memory' ≡ log_pages filled memory
+log_pages-compacted filled filled' memory memory' same moved =
+    ext_get_or [] (log_pages filled' memory') (log_pages filled memory)
+    (length-log_pages filled' memory' ∙ ap log_count same ∙ sym (length-log_pages filled memory))
+    (λ q l0.
+    let l' : q < log_count (length memory') = omega (arith, length-log_pages filled' memory') in
+    let l : q < log_count (length memory) = subst (λ n. q < log_count n) same l' in
+    log_at filled' memory' q l' ∙ ap (λ rs. content rs q) moved ∙ content-compacted (records_in filled memory) q ∙ sym (log_at filled memory q l))
 
 -- a record put into the next slot
 module _ (memory : List ℕ) (filled : ℕ) (last : List (Option ℕ)) (r : Record) (wide : length r.bytes ≡ 64)
@@ -116,19 +121,11 @@ module _ (memory : List ℕ) (filled : ℕ) (last : List (Option ℕ)) (r : Reco
   pub put_indexed : r.page < length last → Indexes last (records_in filled memory)
       → Indexes (set last r.page (Some filled)) (records_in (filled + 1) (overwritten memory (66 * filled) (encoded r)))
   put_indexed inside indexed p =
-      ⊎_elim
-      (λ e.
-      ap (λ q. get_or (set last r.page (Some filled)) q None) e ∙ get_or-set_same last r.page (Some filled) None inside
-      ∙ sym (found ∙ ap (λ b. cond b (Some (length (records_in filled memory))) (last_place (records_in filled memory) p)) (eq-eqb r.page p (sym e))
-      ∙ ap Some (length-records_in filled memory)))
-      (λ apart.
-      get_or-set_other last r.page p (Some filled) None apart ∙ indexed p
-      ∙ sym (found ∙ ap (λ b. cond b (Some (length (records_in filled memory))) (last_place (records_in filled memory) p)) (ne_eqb r.page p (λ e. apart (sym e)))))
-      (cases_eq p r.page)
-    where
-      found : last_place (records_in (filled + 1) (overwritten memory (66 * filled) (encoded r))) p
-          ≡ cond (eqb r.page p) (Some (length (records_in filled memory))) (last_place (records_in filled memory) p)
-      found = ap (λ rs. last_place rs p) put_records ∙ last_place_push (records_in filled memory) r p
+      let same : decoded (encoded r) ≡ r = decoded-encoded r in
+      ap (λ (x : Record). get_or (set last x.page (Some filled)) p None) (sym same)
+      ∙ noted filled memory (encoded r) (length-encoded r wide) fits last (subst (λ (x : Record). x.page < length last) (sym same) inside) p
+      ∙ ap (cond (eqb (decoded (encoded r)).page p) (Some filled)) (indexed p)
+      ∙ sym (last_place-put filled memory (encoded r) (length-encoded r wide) fits last (subst (λ (x : Record). x.page < length last) (sym same) inside) p)
 
   -- what the store keeps, over the values that a write leaves
   pub put_kept : (memory' : List ℕ) (p : ℕ) → memory' ≡ overwritten memory (66 * filled) (encoded r) → p ≡ r.page → r.page < log_count (length memory)
@@ -146,17 +143,6 @@ module _ (memory : List ℕ) (filled : ℕ) (last : List (Option ℕ)) (r : Reco
             (subst (λ q. Indexes (set last q (Some filled)) (records_in (filled + 1) (overwritten memory (66 * filled) (encoded r)))) (sym named)
             (put_indexed (omega (arith, wide-index)) indexed)),
       )
-
--- room for a record: there is some, or the log is compacted
-pub room_left : (slots filled : ℕ) (memory : List ℕ) → filled < slots → records_in filled memory ≡ with_room slots (records_in filled memory)
-room_left slots filled memory lt =
-    ap (λ b. cond b (compacted (records_in filled memory)) (records_in filled memory))
-    (sym (ne_eqb (length (records_in filled memory)) slots (λ e. omega (arith, length-records_in filled memory))))
-
-pub room_made : (slots filled : ℕ) (memory : List ℕ) → filled ≡ slots → compacted (records_in filled memory) ≡ with_room slots (records_in filled memory)
-room_made slots filled memory full =
-    ap (λ b. cond b (compacted (records_in filled memory)) (records_in filled memory))
-    (sym (eq-eqb (length (records_in filled memory)) slots (length-records_in filled memory ∙ full)))
 
 -- a compacted log
 module _ (count filled kept : ℕ) (memory memory' : List ℕ) (known : Known count filled memory)
@@ -194,11 +180,3 @@ log_reads filled memory p bytes lt e = (
 pub index_right : (filled : ℕ) (memory : List ℕ) (last : List (Option ℕ)) → Indexes last (records_in filled memory)
     → (p : ℕ) → Located (records_in filled memory) p (get_or last p None)
 index_right filled memory last indexed p = subst (Located (records_in filled memory) p) (sym (indexed p)) (last_place_located (records_in filled memory) p)
-
--- what a write appends to, in the words of the relation
-pub with_room_is : (slots : ℕ) (rs : List Record) → length rs ≤ slots → RoomMade slots rs (with_room slots rs)
-with_room_is slots rs few = pick (eqb (length rs) slots) refl
-  where
-    pick : (b : Bool) → eqb (length rs) slots ≡ b → RoomMade slots rs (cond b (compacted rs) rs)
-    pick true e = inr (eqb-true (length rs) slots e, compacted_last rs)
-    pick false e = inl (let apart = eqb-false (length rs) slots e in let z : length rs < slots = omega (arith, apart) in z, refl)

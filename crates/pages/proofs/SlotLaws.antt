@@ -1,14 +1,15 @@
 -- Records by their slots: what the filled slots hold, and what a write to the next slot adds.
-use Rattle.std.proofs.Common.{◌≡◌, ℕ, zero, suc, ◌+◌, ◌*◌, ◌<◌, ◌≤◌, List, [], ◌∷◌, ◌++◌, map, length, get_or, take, sym, refl, ap, ◌∙◌, subst, ⊎_elim, zero-add, arith, take-add}
+use Rattle.std.proofs.Common.{◌≡◌, ℕ, zero, suc, cond, eqb, set, Some, None, Option, ◌+◌, ◌*◌, ◌<◌, ◌≤◌, List, [], ◌∷◌, ◌++◌, map, length, get_or, take, sym, refl, ap, ◌∙◌, subst, ⊎_elim, zero-add, arith, take-add}
 use Rattle.std.specs.List.{flat_map, AllByRecursion}
 use Rattle.std.proofs.lemmas.List.FromFn.{map-range_with_len_more}
 use Rattle.std.proofs.ByRecursion.{All-from_get_or, All-get_or}
-use Rattle.std.proofs.lemmas.List.{length-map, map_push, get_or-map, flat_map_more}
-use Rattle.std.proofs.lemmas.Bool.{cases_eq}
+use Rattle.std.proofs.lemmas.List.{length-map, map_push, get_or-map, flat_map_more, get_or-set_same, get_or-set_other}
+use Rattle.std.proofs.lemmas.Bool.{cases_eq, eq-eqb, ne_eqb}
 use Rattle.pages.specs.Pieces.{piece, pieces, overwritten}
 use Rattle.pages.specs.declared.record.Record.{Record}
-use Rattle.pages.specs.Records.{blank}
+use Rattle.pages.specs.Records.{blank, last_place}
 use Rattle.pages.specs.Log.{encoded, decoded, records_in, Exact, Known}
+use Rattle.pages.proofs.RecordLaws.{last_place_push}
 use Rattle.pages.proofs.Pieces.{length-pieces, get_or-pieces, pieces_same, piece-overwritten_same, piece-overwritten_other}
 
 pub length-records_in : (n : ℕ) (memory : List ℕ) → length (records_in n memory) ≡ n
@@ -43,6 +44,25 @@ module _ (j : ℕ) (memory bytes : List ℕ) (wide : length bytes ≡ 66) (fits 
 
       below : (k ≡ j → ⊥) → P (piece 66 (overwritten memory (66 * j) bytes) k)
       below apart = subst P (sym (piece-overwritten_other 66 j memory bytes wide fits k apart)) (all k (omega (arith, apart)))
+
+-- The index of the first j slots, with slot j noted for the page of its record: the last record of each page among j + 1.
+module _ (j : ℕ) (memory bytes : List ℕ) (wide : length bytes ≡ 66) (fits : 66 * j + 66 ≤ length memory) (last : List (Option ℕ)) (inside : (decoded bytes).page < length last) where
+  pub noted : (p : ℕ) → get_or (set last (decoded bytes).page (Some j)) p None ≡ cond (eqb (decoded bytes).page p) (Some j) (get_or last p None)
+  noted p =
+      ⊎_elim
+      (λ e.
+      ap (λ q. get_or (set last (decoded bytes).page (Some j)) q None) e ∙ get_or-set_same last (decoded bytes).page (Some j) None inside
+      ∙ ap (λ b. cond b (Some j) (get_or last p None)) (sym (eq-eqb (decoded bytes).page p (sym e))))
+      (λ apart.
+      get_or-set_other last (decoded bytes).page p (Some j) None apart
+      ∙ ap (λ b. cond b (Some j) (get_or last p None)) (sym (ne_eqb (decoded bytes).page p (λ e. apart (sym e)))))
+      (cases_eq p (decoded bytes).page)
+
+  pub last_place-put : (p : ℕ) → last_place (records_in (j + 1) (overwritten memory (66 * j) bytes)) p ≡ cond (eqb (decoded bytes).page p) (Some j) (last_place (records_in j memory) p)
+  last_place-put p =
+      ap (λ rs. last_place rs p) (records_put j memory bytes wide fits)
+      ∙ last_place_push (records_in j memory) (decoded bytes) p
+      ∙ ap (λ k. cond (eqb (decoded bytes).page p) (Some k) (last_place (records_in j memory) p)) (length-records_in j memory)
 
 -- slots that are exact, side by side, are the records in the layout
 take-piece : (n : ℕ) (memory : List ℕ) → take (66 * (n + 1)) memory ≡ take (66 * n) memory ++ piece 66 memory n

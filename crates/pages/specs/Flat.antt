@@ -33,6 +33,6 @@ FlatWrites store p bytes store' =
     (memory_of store' ≡ overwritten (memory_of store) (64 * p) bytes)
     (memory_of store' ≡ memory_of store)
 
--- The memory is the one that was lent, and its bytes past the last page are as they were.
+-- The memory is the one that was lent and as long as it was, and its bytes past the last page are as they were.
 abbrev pub SameMemory : FlatStore → FlatStore → Type 0
 SameMemory store store' = KeepsMemory 64 4096 (loan_of store) (loan_of store')

@@ -1,9 +1,9 @@
 -- The log store's layout: slots of 66 bytes, each a page number in two bytes, low byte first, and then the page.
-use Rattle.std.specs.Prelude.{◌≡◌, ℕ, ◌+◌, ◌*◌, ◌/◌, ◌%◌, ◌<◌, if◌then◌else◌, ◌⊎◌, List, ◌∷◌, map, length, take, drop, None, Option, ◌==◌, slice_index, slice_index_or}
+use Rattle.std.specs.Prelude.{◌≡◌, ℕ, ◌+◌, ◌*◌, ◌/◌, ◌%◌, ◌<◌, ◌⊎◌, List, ◌∷◌, map, length, take, drop, None, Option, slice_index, slice_index_or}
 use Rattle.std.specs.List.{flat_map}
 use Rattle.pages.specs.Pieces.{piece, pieces, whole_pieces}
 use Rattle.pages.specs.declared.record.Record.{Record}
-use Rattle.pages.specs.Records.{contents, compacted, last_place, LastOfEach}
+use Rattle.pages.specs.Records.{contents, last_place, LastOfEach}
 use Rattle.pages.specs.Store.{Page}
 
 -- how many slots n bytes of memory hold
@@ -46,11 +46,7 @@ Indexes last records = (p : ℕ) → slice_index_or last p None ≡ last_place r
 abbrev pub LaidOut : List ℕ → List Record → Type 0
 LaidOut memory records = take (66 * length records) memory ≡ flat_map encoded records
 
--- what a write appends to: the records as they are or, where every slot is filled, the last of each page
-abbrev pub with_room : ℕ → List Record → List Record
-with_room slots records = if length records == slots then compacted records else records
-
--- `kept` is what a write appends to, in other words: while a slot is left all records are kept,
+-- `kept` is what a write appends to: while a slot is left all records are kept,
 -- and where every slot is filled the last record of each page is.
 abbrev pub RoomMade : ℕ → List Record → List Record → Type 0
 RoomMade slots records kept =

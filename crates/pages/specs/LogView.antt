@@ -43,6 +43,6 @@ LogWrites store p bytes store' =
     Answers (length bytes ≡ 64) (p < length (pages_of store)) (Appended store p bytes store')
     ((memory_of store' ≡ memory_of store) × (records_of store' ≡ records_of store))
 
--- The memory is the one that was lent, and its bytes past the last slot are as they were.
+-- The memory is the one that was lent and as long as it was, and its bytes past the last slot are as they were.
 abbrev pub SameMemory : LogStore → LogStore → Type 0
 SameMemory store store' = KeepsMemory 66 8192 (loan_of store) (loan_of store')

@@ -1,9 +1,18 @@
 // A page store over lent memory in which page p lies at byte 64 × p: as many pages as fit, at most 4,096.
 // The bytes past the last page are never altered.
 
+ghost use Rattle.std.specs.Prelude.{◌≡◌, length, OnOk};
+ghost use Rattle.pages.specs.Flat.{flat_count, loan_of, memory_of, pages_of, FlatWrites, SameMemory};
+ghost use Rattle.pages.specs.Memory.{SameLoan};
+ghost use Rattle.pages.specs.Pieces.{piece};
+ghost use Rattle.pages.specs.Store.{Reads, Shaped, Writes};
+
 use crate::fault::StoreFault;
 use crate::memory::{count_pieces, piece, put_piece};
 use crate::store::{MOST_PAGES, PAGE_BYTES, Page, PageStore, check_page};
+
+// a cast, since a constant's value calls no `try_from`
+const MOST: u16 = MOST_PAGES as u16;
 
 #[derive(Drop)]
 pub struct FlatStore<'a> {
@@ -12,12 +21,6 @@ pub struct FlatStore<'a> {
 }
 
 impl<'a> FlatStore<'a> {
-    ghost use Rattle.std.specs.Prelude.{◌≡◌, OnOk};
-    ghost use Rattle.pages.specs.Flat.{loan_of, memory_of, pages_of, FlatWrites, SameMemory};
-    ghost use Rattle.pages.specs.Memory.{SameLoan};
-    ghost use Rattle.pages.specs.Pieces.{piece};
-    ghost use Rattle.pages.specs.Store.{Reads, Writes};
-
     // The store of the pages that the memory holds as it stands. It goes on using this memory, so that the lender knows
     // what the memory holds once the store is gone.
     pub fn new(memory: &'a mut [u8]) -> FlatStore<'a>
@@ -51,21 +54,19 @@ impl<'a> FlatStore<'a> {
     }
 }
 
+// `read` and `write` begin as in the log store, by the line that turns bytes into a page's array. It is no body of the trait's:
+// each store's contract says more than the trait's, which a body there could not.
+// `SameMemory` stands in the contract of each call that writes, since it relates the store before and after, which no type does.
 impl<'a> PageStore for FlatStore<'a> {
-    ghost use Rattle.std.specs.Prelude.{◌≡◌, length, OnOk};
-    ghost use Rattle.pages.specs.Flat.{flat_count, memory_of, pages_of, FlatWrites, SameMemory};
-    ghost use Rattle.pages.specs.Pieces.{piece};
-    ghost use Rattle.pages.specs.Store.{Reads, Shaped, Writes};
-
     ghost pages = { pages_of };
 
-    #[tactic(auto, using(crate::proofs::FlatLaws::flat_laws))]
+    #[tactic(auto, using(crate::proofs::FlatLaws::flat_laws, crate::proofs::FlatLaws::flat_shaped))]
     fn count(&self) -> u16
         ensures value { result ≡ length (pages_of self.now) }
         ensures shape { Shaped (pages_of self.now) }
         ensures size { result ≡ flat_count (length (memory_of self.now)) }
     {
-        count_pieces::<PAGE_BYTES>(self.memory, MOST_PAGES)
+        count_pieces::<PAGE_BYTES>(self.memory, MOST)
     }
 
     fn read(&self, page: u16, buffer: &mut [u8]) -> Result<(), StoreFault>

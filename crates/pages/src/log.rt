@@ -2,8 +2,11 @@
 // A page's last record is its content; a page without one is 64 zero bytes.
 // The index of last records is part of the store, so that a read goes straight to its slot.
 
-ghost use Rattle.std.specs.Prelude.{◌≡◌, ◌≤◌, [], length};
-ghost use Rattle.pages.specs.Log.{log_count, records_in, slots_in, Exact, Indexes, Known};
+ghost use Rattle.std.specs.Prelude.{◌≡◌, ◌<◌, ◌≤◌, [], ◌∷◌, ◌++◌, length, slice_index_or, slice_set, OnOk};
+ghost use Rattle.pages.specs.Log.{log_count, records_in, slots_in, Exact, Indexes, Known, LaidOut, RoomMade};
+ghost use Rattle.pages.specs.Memory.{SameLoan};
+ghost use Rattle.pages.specs.Records.{Content};
+ghost use Rattle.pages.specs.Store.{Reads, Shaped, Writes};
 
 use crate::fault::StoreFault;
 use crate::memory::{count_pieces, piece, put_piece};
@@ -11,7 +14,8 @@ use crate::record::{Record, SLOT_BYTES};
 use crate::slots::compact;
 use crate::store::{MOST_PAGES, PAGE_BYTES, Page, PageStore, check_page};
 
-const MOST_SLOTS: usize = 2 * MOST_PAGES;
+// a cast, since a constant's value calls no `try_from`
+const MOST_SLOTS: u16 = 2 * MOST_PAGES as u16;
 
 #[derive(Drop)]
 pub struct LogStore<'a> {
@@ -32,12 +36,7 @@ pub struct LogStore<'a> {
 }
 
 impl<'a> LogStore<'a> {
-    ghost use Rattle.std.specs.Prelude.{◌<◌, ◌∷◌, ◌++◌, OnOk, slice_index_or};
-    ghost use Rattle.pages.specs.Log.{with_room, LaidOut};
-    ghost use Rattle.pages.specs.LogView.{loan_of, memory_of, pages_of, records_of, IndexRight, SameMemory, LogWrites};
-    ghost use Rattle.pages.specs.Memory.{SameLoan};
-    ghost use Rattle.pages.specs.Records.{Content};
-    ghost use Rattle.pages.specs.Store.{Reads, Writes};
+    ghost use Rattle.pages.specs.LogView.{loan_of, memory_of, pages_of, records_of, IndexRight, LogWrites, SameMemory};
 
     // A store without records, whatever the memory holds.
     pub fn new(memory: &'a mut [u8]) -> LogStore<'a>
@@ -53,7 +52,7 @@ impl<'a> LogStore<'a> {
     }
 
     // How many records the log holds.
-    #[tactic(auto, using(crate::proofs::SlotLaws::slot_laws))]
+    #[tactic(auto, using(crate::proofs::SlotLaws::slot_laws, crate::proofs::LogLaws::log_laid))]
     pub fn records(&self) -> usize
         ensures value { result ≡ length (records_of self.now) }
         ensures layout { LaidOut (memory_of self.now) (records_of self.now) }
@@ -99,13 +98,17 @@ impl<'a> LogStore<'a> {
     {
         check_page(self.count(), page)?;
         self.make_room();
-        self.append(page, bytes);
+        self.append(Record {
+            page,
+            bytes: *bytes,
+        });
         Ok(())
     }
 
     // Compacts the log where every slot is filled, so that a page's next record has room.
     fn make_room(&mut self)
-        ensures records { records_of self.new ≡ with_room (slots_in (length (memory_of self.old))) (records_of self.old) }
+        ensures pages { pages_of self.new ≡ pages_of self.old }
+        ensures records { RoomMade (slots_in (length (memory_of self.old))) (records_of self.old) (records_of self.new) }
         ensures room { 0 < length (pages_of self.old) → self.new.filled < slots_in (length (memory_of self.new)) }
         ensures memory { SameMemory self.old self.new }
     {
@@ -114,19 +117,17 @@ impl<'a> LogStore<'a> {
         }
     }
 
-    // Puts the record of a page's bytes into the next slot.
-    fn append(&mut self, page: u16, bytes: &Page)
-        requires there { page < length (pages_of self.old) }
+    // Puts a record into the next slot.
+    fn append(&mut self, latest: Record)
+        requires there { latest.page < length (pages_of self.old) }
         requires room { self.old.filled < slots_in (length (memory_of self.old)) }
-        ensures records { records_of self.new ≡ records_of self.old ++ record { page = page; bytes = bytes.now } ∷ [] }
+        ensures pages { pages_of self.new ≡ slice_set (pages_of self.old) latest.page latest.bytes }
+        ensures records { records_of self.new ≡ records_of self.old ++ latest ∷ [] }
+        ensures layout { LaidOut (memory_of self.new) (records_of self.new) }
         ensures memory { SameMemory self.old self.new }
     {
-        let record = Record {
-            page,
-            bytes: *bytes,
-        };
-        put_piece(self.memory, self.filled, &record.into());
-        self.last[usize::from(page)] = Some(self.filled);
+        put_piece(self.memory, self.filled, &latest.into());
+        self.last[usize::from(latest.page)] = Some(self.filled);
         self.filled += 1;
     }
 }
@@ -140,14 +141,11 @@ fn no_records() -> [Option<u16>; MOST_PAGES]
 }
 
 impl<'a> PageStore for LogStore<'a> {
-    ghost use Rattle.std.specs.Prelude.{OnOk};
-    ghost use Rattle.pages.specs.LogView.{memory_of, pages_of, records_of, IndexRight, SameMemory, LogWrites};
-    ghost use Rattle.pages.specs.Records.{Content};
-    ghost use Rattle.pages.specs.Store.{Reads, Shaped, Writes};
+    ghost use Rattle.pages.specs.LogView.{memory_of, pages_of, records_of, IndexRight, LogWrites, SameMemory};
 
     ghost pages = { pages_of };
 
-    #[tactic(auto, using(crate::proofs::LogLaws::log_laws))]
+    #[tactic(auto, using(crate::proofs::LogLaws::log_laws, crate::proofs::LogLaws::store_shaped))]
     fn count(&self) -> u16
         ensures value { result ≡ length (pages_of self.now) }
         ensures shape { Shaped (pages_of self.now) }

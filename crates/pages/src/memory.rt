@@ -5,15 +5,14 @@ ghost use Rattle.std.specs.Prelude.{◌≡◌, ◌+◌, ◌*◌, ◌<◌, ◌≤
 ghost use Rattle.pages.specs.Pieces.{piece, overwritten, whole_pieces};
 
 // How many whole pieces a memory holds, at most `most`.
-// The cast is proved to lose nothing, where `try_from` would answer an error that cannot come.
-pub(crate) fn count_pieces<const WIDTH: usize>(memory: &[u8], most: usize) -> u16
-    requires wide { 0 < WIDTH }
-    requires few { most < 65536 }
+pub(crate) fn count_pieces<const WIDTH: usize>(memory: &[u8], most: u16) -> u16
+    requires { 0 < WIDTH }
     ensures { result ≡ whole_pieces WIDTH most (length memory.now) }
 {
-    (memory.len() / WIDTH).min(most) as u16
+    u16::try_from(memory.len() / WIDTH).map_or(most, |pieces| pieces.min(most))
 }
 
+// These are functions over a memory and a place in it, since the memory is a field of each store, which its lender must see.
 pub(crate) fn piece<const WIDTH: usize>(memory: &[u8], at: u16) -> &[u8; WIDTH]
     requires wide { 0 < WIDTH }
     requires fits { WIDTH * at + WIDTH ≤ length memory.now }

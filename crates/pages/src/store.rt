@@ -16,9 +16,6 @@ pub(crate) type Page = [u8; PAGE_BYTES];
 // the most pages that a store has
 pub const MOST_PAGES: usize = 4096;
 
-// Each store turns the buffer into a page's array and then has a call of its own for the page. These few lines are no body of the
-// trait's, since the contract of each store says more than the trait's, and a shared body could not.
-// A page's number and its bytes stay two parameters: a caller names the one and lends the other.
 pub trait PageStore {
     // the pages, each by its bytes
     ghost pages: { Self → List Page };

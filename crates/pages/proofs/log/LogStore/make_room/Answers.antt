@@ -1,7 +1,10 @@
-use Rattle.std.proofs.Common.{◌≤◌, length, sym, ◌∙◌, subst, arith}
-use Rattle.pages.specs.Log.{slots_in, log_count, Known}
-use Rattle.pages.specs.LogView.{memory_of}
-use Rattle.pages.proofs.LogLaws.{length-log_pages, room_left, room_made, compact_few, compact_known}
+use Rattle.std.proofs.Common.{◌≤◌, length, sym, refl, subst, inl, inr, arith}
+use Rattle.pages.specs.Log.{log_count, Known}
+use Rattle.pages.specs.LogView.{memory_of, records_of}
+use Rattle.pages.specs.Records.{LastOfEach}
+use Rattle.pages.proofs.LastOfEach.{compacted_last}
+use Rattle.pages.proofs.LogLaws.{length-log_pages, log_pages-compacted, compact_few, compact_known}
+use Rattle.pages.proofs.SlotLaws.{length-records_in}
 use Rattle.pages.proofs.log.LogStore.make_room.Goals as goal
 
 pub invariant_of-self : goal.invariant_of-self
@@ -21,10 +24,15 @@ invariant_of-self c =
       indexed = c.compact-self.ensures.indexed;
     }
 
+pub returns-then-self-slot_count-clause-pages : goal.returns-then-self-slot_count-clause-pages
+returns-then-self-slot_count-clause-pages c =
+    let old = c.args.self.now in
+    log_pages-compacted old.filled c.compact-self.result (memory_of old) c.compact-self.new.memory c.compact-self.auto.memory c.compact-self.ensures.records
+
 pub returns-then-self-slot_count-clause-records : goal.returns-then-self-slot_count-clause-records
 returns-then-self-slot_count-clause-records c =
     let old = c.args.self.now in
-    c.compact-self.ensures.records ∙ room_made (slots_in (length (memory_of old))) old.filled (memory_of old) (omega arith)
+    inr (omega (arith, length-records_in old.filled (memory_of old)), subst (LastOfEach (records_of old)) (sym c.compact-self.ensures.records) (compacted_last (records_of old)))
 
 pub returns-then-self-slot_count-clause-room : goal.returns-then-self-slot_count-clause-room
 returns-then-self-slot_count-clause-room c some =
@@ -35,4 +43,4 @@ returns-then-self-slot_count-clause-room c some =
 pub returns-else-self-slot_count-clause-records : goal.returns-else-self-slot_count-clause-records
 returns-else-self-slot_count-clause-records c =
     let old = c.args.self.now in
-    room_left (slots_in (length (memory_of old))) old.filled (memory_of old) (omega (arith, old.few))
+    inl (omega (arith, old.few, length-records_in old.filled (memory_of old)), refl)
