@@ -20,18 +20,13 @@ pub(crate) fn write_all<S: PageStore>(rt: &impl Abort, store: &mut S, writes: &[
     }
 }
 
-// A record of such a page: the page's number, low byte first, and then its bytes.
-fn slot_of(page: u16, byte: u8) -> [u8; 66] {
-    let mut slot = [byte; 66];
-    slot[..2].copy_from_slice(&page.to_le_bytes());
-    slot
-}
-
-// Compares the first slots of a log's memory with the records of such pages.
+// Compares the first slots of a log's memory with the records of such pages: the page's number, low byte first, and its bytes.
 pub(crate) fn check_slots(rt: &impl Abort, memory: &[u8], records: &[(u16, u8)]) {
     let (slots, _) = memory.as_chunks::<66>();
     assert!(rt; records.len() <= slots.len());
     for (slot, &(page, byte)) in slots.iter().zip(records) {
-        assert_eq!(rt; *slot, slot_of(page, byte));
+        let [low, high, ..] = *slot;
+        assert_eq!(rt; u16::from(low) + 256 * u16::from(high), page);
+        assert!(rt; slot[2..].iter().all(|&found| found == byte));
     }
 }

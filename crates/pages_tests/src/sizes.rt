@@ -19,6 +19,7 @@ fn check_counts<F: Fn(&mut [u8]) -> u16>(
     Ok(())
 }
 
+// One test for each store, since a test is known by its name: its table of sizes, and how such a store is made.
 #[test]
 fn flat_store_counts_whole_pages_up_to_4096(rt: HostRuntime) -> Result<(), Fail> {
     let sizes = [

@@ -87,11 +87,12 @@ impl<'a> Books<'a> {
 }
 
 // The first four cells of a page, as text.
-fn first_cells(heap: Global, book: &[u8], page: usize) -> anyhow::Result<String> {
+fn first_cells(heap: Global, book: &[u8], page: u8) -> anyhow::Result<String> {
     let mut shown = String::new(heap);
     let (cells, _) = book.as_chunks::<CELL_BYTES>();
-    let skipped = page.saturating_mul(PAGE_BYTES / CELL_BYTES);
+    let skipped = usize::from(page) * (PAGE_BYTES / CELL_BYTES);
     for bytes in cells.iter().skip(skipped).take(4) {
+        // No `join`: each word is lent by a cell of its own, so there are no words side by side.
         if !shown.is_empty() {
             shown.push_str(" | ")?;
         }
