@@ -8,7 +8,7 @@ use crate::store::{PAGE_BYTES, PageStore};
 
 // Fills the buffer with the first `count` pages of a store.
 pub fn export<S: PageStore>(store: &S, count: usize, buffer: &mut [u8]) -> Result<(), StoreFault>
-    ensures { Exports (S.PageStore.pages store.now) count buffer.old buffer.new result }
+    ensures { Exports (S.pages store.now) count buffer.old buffer.new result }
 {
     if count.checked_mul(PAGE_BYTES) != Some(buffer.len()) {
         return Err(StoreFault::WrongLength);
@@ -24,8 +24,8 @@ pub fn export<S: PageStore>(store: &S, count: usize, buffer: &mut [u8]) -> Resul
 // longer its bytes.
 fn copy_pages<S: PageStore>(store: &S, count: u16, buffer: &mut [u8]) -> Result<(), StoreFault>
     requires fits { length buffer.old ≡ 64 * count }
-    requires there { count ≤ length (S.PageStore.pages store.now) }
-    ensures { Exports (S.PageStore.pages store.now) count buffer.old buffer.new result }
+    requires there { count ≤ length (S.pages store.now) }
+    ensures { Exports (S.pages store.now) count buffer.old buffer.new result }
 {
     for page in 0..count {
         let at = PAGE_BYTES * usize::from(page);

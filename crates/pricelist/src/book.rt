@@ -27,8 +27,8 @@ pub(crate) fn write_book<S: PageStore>(
     store: &mut S,
     book: &[[u8; PAGE_BYTES]],
 ) -> Result<(), StoreFault>
-    ensures written { OnOk result (S.PageStore.pages store.new ≡ copied book.now (S.PageStore.pages store.old)) }
-    ensures too_small { OnErr result (min (length (S.PageStore.pages store.old)) (2 ^ 16) < length book.now) }
+    ensures written { OnOk result (S.pages store.new ≡ copied book.now (S.pages store.old)) }
+    ensures too_small { OnErr result (min (length (S.pages store.old)) (2 ^ 16) < length book.now) }
 {
     for (page, bytes) in book.iter().enumerate() {
         store.write(page_number(page)?, bytes)?;
@@ -39,8 +39,8 @@ pub(crate) fn write_book<S: PageStore>(
 // Copies every page of one store into another. It fails only where the other has fewer.
 #[tactic(auto, using(crate::proofs::BookLaws::copy_more))]
 pub(crate) fn copy_book<A: PageStore, B: PageStore>(from: &A, to: &mut B) -> Result<(), StoreFault>
-    ensures made { OnOk result (B.PageStore.pages to.new ≡ copied (A.PageStore.pages from.now) (B.PageStore.pages to.old)) }
-    ensures too_small { OnErr result (length (B.PageStore.pages to.old) < length (A.PageStore.pages from.now)) }
+    ensures made { OnOk result (B.pages to.new ≡ copied (A.pages from.now) (B.pages to.old)) }
+    ensures too_small { OnErr result (length (B.pages to.old) < length (A.pages from.now)) }
 {
     for page in 0..from.count() {
         let mut buffer = [0; PAGE_BYTES];
@@ -52,7 +52,7 @@ pub(crate) fn copy_book<A: PageStore, B: PageStore>(from: &A, to: &mut B) -> Res
 
 // The whole book of a store, page after page.
 pub(crate) fn book_of<S: PageStore>(heap: Global, store: &S) -> anyhow::Result<Vec<u8>>
-    ensures { IfOk result (λ book. book.items ≡ flat_map (λ page. page) (S.PageStore.pages store.now)) }
+    ensures { IfOk result (λ book. book.items ≡ flat_map (λ page. page) (S.pages store.now)) }
 {
     let pages = usize::from(store.count());
     let mut book = vec![in heap; 0u8; pages * PAGE_BYTES]?;
@@ -70,9 +70,9 @@ pub(crate) fn find(book: &[u8], article: Cell) -> Option<usize>
 
 // Makes a row's price another one, on its page. It fails only where the store has no such page, and alters nothing then.
 pub(crate) fn change<S: PageStore>(store: &mut S, row: usize, price: Cell) -> Result<(), StoreFault>
-    ensures changed { OnOk result (S.PageStore.pages store.new ≡ repriced (S.PageStore.pages store.old) row price.0) }
-    ensures unaltered { OnErr result (S.PageStore.pages store.new ≡ S.PageStore.pages store.old) }
-    ensures no_such_row { OnErr result (min (length (S.PageStore.pages store.old)) (2 ^ 16) ≤ row / 4) }
+    ensures changed { OnOk result (S.pages store.new ≡ repriced (S.pages store.old) row price.0) }
+    ensures unaltered { OnErr result (S.pages store.new ≡ S.pages store.old) }
+    ensures no_such_row { OnErr result (min (length (S.pages store.old)) (2 ^ 16) ≤ row / 4) }
 {
     let page = page_number(row / ROWS_PER_PAGE)?;
     let at = row % ROWS_PER_PAGE * ROW_BYTES + CELL_BYTES;
