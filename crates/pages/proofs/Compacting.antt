@@ -1,15 +1,15 @@
 -- The compaction of a log, slot by slot: what has been kept, followed by the compaction of what is still ahead, is the compaction of all.
 use Rattle.std.proofs.Common.{◌≡◌, ℕ, suc, ◌+◌, ◌*◌, ◌<◌, ◌≤◌, Bool, true, false, cond, eqb, List, [], ◌∷◌, ◌++◌, length, get_or, drop, set, Some, None, Option, sym, refl, ap, ◌∙◌, subst, ⊎_elim, arith}
-use Rattle.std.proofs.lemmas.List.{append_assoc, append-nil, drop_more, drop_all, get_or-set_same, get_or-set_other}
+use Rattle.std.proofs.lemmas.List.{append_assoc, append-nil, drop_more, drop_all}
 use Rattle.std.proofs.lemmas.Slice.{drop-put_mid}
 use Rattle.std.proofs.lemmas.Option.{none-some}
-use Rattle.std.proofs.lemmas.Bool.{both_ways, eq-eqb, eqb-true, ne_eqb, cases_eq}
+use Rattle.std.proofs.lemmas.Bool.{both_ways, eq-eqb, eqb-true}
 use Rattle.pages.specs.Pieces.{piece, overwritten}
 use Rattle.pages.specs.declared.record.Record.{Record}
 use Rattle.pages.specs.Records.{blank, after, last_place, unless_later, compacted}
 use Rattle.pages.specs.Log.{encoded, decoded, records_in, Exact, Known, Indexes}
 use Rattle.pages.proofs.Pieces.{length-piece, piece-overwritten_other, put_mid-overwritten}
-use Rattle.pages.proofs.RecordLaws.{either, last_place_push}
+use Rattle.pages.proofs.RecordLaws.{either}
 use Rattle.pages.proofs.SlotLaws.{length-records_in, get_or-records_in, records_put, slots_put, noted, last_place-put}
 
 -- the place of a page's last record while slots from i on are ahead: there if one names the page, else among those kept

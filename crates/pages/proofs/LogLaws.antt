@@ -15,7 +15,7 @@ use Rattle.pages.specs.Log.{slots_in, log_count, encoded, decoded, records_in, l
 use Rattle.pages.proofs.Pieces.{length-piece, length-overwritten_piece, whole_piece_fits}
 use Rattle.pages.proofs.OneEach.{compacted_few}
 use Rattle.pages.proofs.RecordBytes.{decoded-encoded, length-encoded}
-use Rattle.pages.proofs.RecordLaws.{either, last_place_is, last_place_located, last_place_push, content_is, content_push, content-compacted, All-compacted}
+use Rattle.pages.proofs.RecordLaws.{either, last_place_is, last_place_located, content_is, content_push, content-compacted, All-compacted}
 use Rattle.pages.proofs.SlotLaws.{length-records_in, get_or-records_in, records_put, slots_put, noted, last_place-put, exact_laid, All-from_Known, Known-from_All}
 
 pub length-log_pages : (filled : ℕ) (memory : List ℕ) → length (log_pages filled memory) ≡ log_count (length memory)

@@ -14,7 +14,7 @@ either None = inl refl
 either (Some k) = inr (k, refl)
 
 -- where there is none, neither the first record nor a later one names the page
-after_none : (here : Bool) (o : Option ℕ) → after here o ≡ None → (o ≡ None) × (here ≡ false)
+pub after_none : (here : Bool) (o : Option ℕ) → after here o ≡ None → (o ≡ None) × (here ≡ false)
 after_none true None e = absurd (none-some 0 (sym e))
 after_none false None e = (refl, refl)
 after_none here (Some k) e = absurd (none-some (suc k) (sym e))
