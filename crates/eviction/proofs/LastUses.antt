@@ -8,19 +8,20 @@ use Rattle.std.proofs.lemmas.List.Quantifiers.{all_pairs_push}
 use Rattle.std.proofs.lemmas.Bool.{cases_eq, cases_lt, cases_order, cond-true, cond-false, eq-eqb, ne_eqb, le-ltb, lt-ltb, false≢true}
 use Rattle.eviction.specs.declared.notice.Notice.{Notice}
 use Rattle.eviction.specs.declared.notice.Notice.TheVariants.{Used, Emptied}
-use Rattle.eviction.specs.OldestUse.{order_after, LongestAgo, Since, TakesLongestAgo}
+use Rattle.eviction.specs.declared.oldest_use.OldestUse.{OldestUse}
+use Rattle.eviction.specs.OldestUse.{order_after, order_of, LongestAgo, Since, TakesLongestAgo}
 use Rattle.eviction.specs.Order.{IsOrder, without, Fresh, Lowest, MemberAt, FirstToGo}
 use Rattle.eviction.specs.Places.{Member}
 use Rattle.eviction.specs.Policy.{nothing, one_more, asked}
 use Rattle.eviction.proofs.Ages.{later, used_ago, Ahead, sooner}
-use Rattle.eviction.proofs.OrderLaws.{Other, without_absent, without_others, Contains-without}
+use Rattle.eviction.proofs.OrderLaws.{Other, IsOrder-take, without_absent, without_others, Contains-without}
 
 -- the order that notices leave in a policy that was new before them, the newest notice first
 abbrev order_by : List Notice → List ℕ
 order_by [] = []
 order_by (n ∷ ns) = order_after n (order_by ns)
 
-heard_order : {notices : List Notice} {order : List ℕ} → Since notices order → order ≡ order_by notices
+heard_order : {notices : List Notice} {policy : OldestUse} → Since notices policy → order_of policy ≡ order_by notices
 heard_order (nothing e) = e
 heard_order (one_more notice h t) = t.order ∙ ap (order_after notice) (heard_order h)
 heard_order (asked h c) = c.order ∙ heard_order h
@@ -173,8 +174,8 @@ module _ (age : ℕ → Option ℕ) (order : List ℕ) (t : Tracks age order) wh
       go None e = absurd (none j (n, not_there j e))
       go (Some b) e = behind (t.whole j n.0 (ap is_some e))
 
-longest_ago : (notices : List Notice) (order : List ℕ) (among k : ℕ) → Since notices order → FirstToGo order among (Some k) → LongestAgo notices among k
-longest_ago ns order among k heard first =
+longest_ago : (notices : List Notice) (policy : OldestUse) (among k : ℕ) → Since notices policy → FirstToGo (order_of policy) among (Some k) → LongestAgo notices among k
+longest_ago ns policy among k heard first =
     ⊎_elim
     (λ lowest. record {
       member = lowest.0.0;
@@ -197,18 +198,24 @@ next_used xs order n l =
     λ e. order.apart i n 0 lt l (sym (get_or-take n xs i 0 lt) ∙ e)) in
     take_more xs n 0 l ∙ sym (cond-true (ltb k 16) (without k (take n xs) ++ k ∷ []) (take n xs) (lt-ltb k 16 (order.known n 0 l)) ∙ ap (λ ys. ys ++ k ∷ []) (without_absent k (take n xs) new))
 
--- so every order comes of some notices
-some_notices : (order : List ℕ) → IsOrder order → (notices : List Notice) × Since notices order
-some_notices order good = subst (λ xs. (notices : List Notice) × Since notices xs) (take_all (length order) order (omega arith)) (up_to (length order) (omega arith))
+-- so every policy has heard some notices
+some_notices : (policy : OldestUse) → (notices : List Notice) × Since notices policy
+some_notices policy = up_to (length order) (omega arith) policy (sym (take_all (length order) order (omega arith)))
   where
-    up_to : (n : ℕ) → n ≤ length order → (notices : List Notice) × Since notices (take n order)
-    up_to zero le = ([], nothing refl)
-    up_to (suc n) le =
-        let k : ℕ = get_or order n 0 in
-        let before = up_to n (omega arith) in
-        let e : take (suc n) order ≡ order_after (Used k) (take n order) = ap (λ m. take m order) (sym (add-one n)) ∙ next_used order good n (omega arith) in
-        (Used k ∷ before.0, one_more (Used k) before.1 (record { order = e; ignored = λ far. absurd (omega (arith, good.known n 0 (omega arith))) }))
+    order : List ℕ
+    order = order_of policy
 
-pub takes_longest_ago : (order : List ℕ) (among : ℕ) (r : Option ℕ) → IsOrder order → FirstToGo order among r → TakesLongestAgo order among r
-takes_longest_ago order among None good first = tt
-takes_longest_ago order among (Some k) good first = (some_notices order good, λ notices since. longest_ago notices order among k since first)
+    -- a policy with the first n places of the order has heard some
+    up_to : (n : ℕ) → n ≤ length order → (p : OldestUse) → order_of p ≡ take n order → (notices : List Notice) × Since notices p
+    up_to zero le p e = ([], nothing e)
+    up_to (suc n) le p e =
+        let k : ℕ = get_or order n 0 in
+        let one_less : OldestUse = record { order = record { items = take n order }; sound = IsOrder-take n order policy.sound } in
+        let before = up_to n (omega arith) one_less refl in
+        let used : order_of p ≡ order_after (Used k) (take n order) =
+        e ∙ ap (λ m. take m order) (sym (add-one n)) ∙ next_used order policy.sound n (omega arith) in
+        (Used k ∷ before.0, one_more (Used k) before.1 (record { order = used; ignored = λ far. absurd (omega (arith, policy.sound.known n 0 (omega arith))) }))
+
+pub takes_longest_ago : (policy : OldestUse) (among : ℕ) (r : Option ℕ) → FirstToGo (order_of policy) among r → TakesLongestAgo policy among r
+takes_longest_ago policy among None first = tt
+takes_longest_ago policy among (Some k) first = (some_notices policy, λ notices since. longest_ago notices policy among k since first)

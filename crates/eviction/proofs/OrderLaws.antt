@@ -1,16 +1,15 @@
 -- Orders of places: what is left when one is taken out or put at the end, and that sixteen are the most.
-use Rattle.std.proofs.Common.{◌≡◌, ℕ, zero, suc, ◌<◌, ◌≤◌, Bool, true, not, eqb, List, [], ◌∷◌, ◌++◌, length, MatchOption, Some, None, Option, filter, sym, refl, ap, ◌∙◌, subst, arith}
-use Rattle.std.specs.List.{All, Contains, list_any}
+use Rattle.std.proofs.Common.{◌≡◌, ℕ, zero, suc, ◌<◌, ◌≤◌, Bool, true, not, eqb, List, [], ◌∷◌, ◌++◌, length, MatchOption, Some, None, Option, filter, take, sym, refl, ap, ◌∙◌, subst, arith}
+use Rattle.std.specs.List.{All, AllPairs, Contains, list_any}
 use Rattle.std.proofs.lemmas.Bool.{cond-true, cond_both, ne_eqb, eqb-false, not-true, not_from_false}
 use Rattle.std.proofs.lemmas.Bool.Decides.{Decides-eqb, Decides-by_or}
-use Rattle.std.proofs.lemmas.List.{get_or_default, length_push}
-use Rattle.std.proofs.lemmas.List.Elements.{All-contains, All-filter, All-head, All-push, All-tail, All-weaker, Contains-append_right, filter_passes}
+use Rattle.std.proofs.lemmas.List.{get_or_default, get_or-take, length-take, length_push}
+use Rattle.std.proofs.lemmas.List.Elements.{All-contains, All-filter, All-head, All-push, All-tail, All-take, All-weaker, Contains-append_right, filter_passes}
 use Rattle.std.proofs.lemmas.List.Kept.{AllPairs-filter}
 use Rattle.std.proofs.lemmas.List.Quantifiers.{all_pairs_push}
 use Rattle.std.proofs.lemmas.Map.Made.{IsDistinct-from_AllPairs}
 use Rattle.std.proofs.lemmas.Map.Steps.{length-le_from_distinct_below}
-use Rattle.eviction.specs.Order.{IsOrder, without, Fresh, Lowest, MemberAt}
-use Rattle.eviction.specs.Places.{Member, Empty}
+use Rattle.eviction.specs.Order.{IsOrder, without, Lowest}
 
 -- a number that is not another
 abbrev pub Other : ℕ → ℕ → Type 0
@@ -57,7 +56,16 @@ IsOrder-push k xs lt absent order = record {
   apart = all_pairs_push (λ i j. Other i j) xs k order.apart (λ i d l e. absent (i, l, get_or_default xs i k d l ∙ e));
 }
 
-length-le_from_IsOrder : (xs : List ℕ) → IsOrder xs → length xs ≤ 16
+AllPairs-take : (R : ℕ → ℕ → Type 0) (n : ℕ) (xs : List ℕ) → AllPairs R xs → AllPairs R (take n xs)
+AllPairs-take R n xs p i j d lt l =
+    let inside : j < n = omega (arith, length-take n xs) in
+    rw (get_or-take n xs i d (omega arith), get_or-take n xs j d inside) (p i j d lt (omega (arith, length-take n xs)))
+
+pub IsOrder-take : (n : ℕ) (xs : List ℕ) → IsOrder xs → IsOrder (take n xs)
+IsOrder-take n xs order = record { known = All-take (λ j. j < 16) n xs order.known; apart = AllPairs-take Other n xs order.apart }
+
+-- an order has sixteen places at the most
+pub length-le_from_IsOrder : (xs : List ℕ) → IsOrder xs → length xs ≤ 16
 length-le_from_IsOrder xs order = length-le_from_distinct_below xs 16 (IsDistinct-from_AllPairs Decides-eqb xs order.apart) below
   where
     below : (q : ℕ) → list_any (eqb q) xs ≡ true → q < 16
@@ -68,11 +76,6 @@ length-le_from_IsOrder xs order = length-le_from_distinct_below xs 16 (IsDistinc
 -- an order that lacks a place has room for it
 pub room : (k : ℕ) (xs : List ℕ) → k < 16 → (Contains xs k → ⊥) → IsOrder xs → length xs < 16
 room k xs lt absent order = omega (arith, length_push xs k, length-le_from_IsOrder (xs ++ k ∷ []) (IsOrder-push k xs lt absent order))
-
--- where no member is outside the order and none is in it, there is none
-pub no_member : (order : List ℕ) (among : ℕ) → Lowest (Fresh order among) None → Lowest (MemberAt order among) None → Empty among
-no_member order among outside inside k m =
-    outside k (m, λ h. inside h.0 (h.1, subst (Member among) (sym (get_or_default order h.0 0 k h.1 ∙ h.2)) m))
 
 -- what `find` over the places answers
 pub lowest_found : (P : ℕ → Type 0) → ((k : ℕ) → P k → k < 16) → (r : Option ℕ)

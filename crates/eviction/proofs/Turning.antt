@@ -1,5 +1,5 @@
 -- The clock's hand on its way: what is known after so many places, and that two circles are enough.
-use Rattle.std.proofs.Common.{◌≡◌, ℕ, ◌+◌, ◌%◌, ◌<◌, Bool, true, false, List, length, get_or, set, sym, ap, ◌∙◌, subst, ⊎_elim, arith, length-set}
+use Rattle.std.proofs.Common.{◌≡◌, ℕ, ◌+◌, ◌%◌, ◌<◌, Bool, true, false, List, length, get_or, set, sym, ap, ◌∙◌, subst, ⊎_elim, arith}
 use Rattle.std.proofs.lemmas.List.{get_or-set_same, get_or-set_other, set-get_or}
 use Rattle.std.proofs.lemmas.Bool.{cases_eq, cases_lt, both_ways}
 use Rattle.eviction.specs.Clock.{next, way, Sweeps, takes, clears, passes}
@@ -13,7 +13,6 @@ pub record Turned (among h : ℕ) (ms : List Bool) (step h' : ℕ) (ms' : List B
   pub cleared : (d : ℕ) → d < step → Member among ((h + d) % 16) → get_or ms' ((h + d) % 16) false ≡ false
   pub none : (d : ℕ) → d + 16 < step → Member among ((h + d) % 16) → ⊥
   pub same : Empty among → ms' ≡ ms
-  pub wide : length ms' ≡ 16
 
 -- One place more: the hand leaves `place`, which is where it was, for h₂, and the marks are then ms₂.
 module _ {among h : ℕ} {ms : List Bool} {step h' : ℕ} {ms' : List Bool} (t : Turned among h ms step h' ms') where
@@ -37,22 +36,20 @@ module _ {among h : ℕ} {ms : List Bool} {step h' : ℕ} {ms' : List Bool} (t :
     none = λ d l m.
         ⊎_elim (λ lt. t.none d lt m) (λ ge. out (subst (Member among) (again d (omega arith)) m)) (cases_lt (d + 16) step);
     same = t.same;
-    wide = t.wide;
   }
 
-  cleared_one : Member among h' → get_or ms' h' false ≡ true → Turned among h ms (step + 1) (next h') (set ms' h' false)
-  cleared_one m marked = record {
+  cleared_one : length ms' ≡ 16 → Member among h' → get_or ms' h' false ≡ true → Turned among h ms (step + 1) (next h') (set ms' h' false)
+  cleared_one wide m marked = record {
     at = omega (arith, t.at);
     rest = λ k marks s. t.rest k marks (clears h' m marked s);
     cleared = λ d l n.
         ⊎_elim
-        (λ e. ap (λ p. get_or (set ms' h' false) p false) e ∙ get_or-set_same ms' h' false false (omega (arith, m.0, t.wide)))
+        (λ e. ap (λ p. get_or (set ms' h' false) p false) e ∙ get_or-set_same ms' h' false false (omega (arith, m.0)))
         (λ apart. get_or-set_other ms' h' ((h + d) % 16) false false apart ∙ ⊎_elim (λ lt. t.cleared d lt n) (λ ge. absurd (apart (here d (omega arith)))) (cases_lt d step))
         (cases_eq ((h + d) % 16) h');
     none = λ d l n.
         ⊎_elim (λ lt. t.none d lt n) (λ ge. both_ways (get_or ms' h' false) (no_mark d (omega arith) m) marked) (cases_lt (d + 16) step);
     same = λ e. absurd (e h' m);
-    wide = length-set ms' h' false ∙ t.wide;
   }
 
   taken : Member among h' → get_or ms' h' false ≡ false → Sweeps among h ms h' (set ms' h' false)
@@ -60,15 +57,18 @@ module _ {among h : ℕ} {ms : List Bool} {step h' : ℕ} {ms' : List Bool} (t :
       let e : set ms' h' false ≡ ms' = ap (set ms' h') (sym unmarked) ∙ set-get_or ms' h' false in
       t.rest h' (set ms' h' false) (subst (λ ws. Sweeps among h' ms' h' ws) (sym e) (takes m unmarked))
 
-  module _ {place h₂ : ℕ} (there : place ≡ h') (moved : h₂ ≡ next h') where
-    pub turned_pass : (Member among place → ⊥) → Turned among h ms (step + 1) h₂ ms'
-    turned_pass out = rw moved (passed (rw there at out))
+  module _ {place : ℕ} {ms₁ : List Bool} (there : place ≡ h') where
+    pub turned_pass : {h₂ : ℕ} → ms₁ ≡ ms' → h₂ ≡ next h' → (Member among place → ⊥) → Turned among h ms (step + 1) h₂ ms₁
+    turned_pass kept moved out = rw (kept, moved) (passed (rw there at out))
 
-    pub turned_clear : {ms₂ : List Bool} → ms₂ ≡ set ms' place false → Member among place → get_or ms' place false ≡ true → Turned among h ms (step + 1) h₂ ms₂
-    turned_clear cleared m marked = rw (cleared, there, moved) (cleared_one (rw there at m) (rw there at marked))
+    pub turned_clear : {h₂ : ℕ} {ms₂ : List Bool} → ms₁ ≡ ms' → ms₂ ≡ set ms₁ place false → h₂ ≡ next h' → length ms' ≡ 16
+        → Member among place → get_or ms₁ place false ≡ true → Turned among h ms (step + 1) h₂ ms₂
+    turned_clear kept cleared moved wide m marked =
+        rw (cleared, kept, there, moved) (cleared_one wide (rw there at m) (rw (kept, there) at marked))
 
-    pub turned_take : {ms₂ : List Bool} → ms₂ ≡ set ms' place false → Member among place → get_or ms' place false ≡ false → Sweeps among h ms place ms₂ × (h₂ ≡ next place)
-    turned_take cleared m unmarked = (rw (cleared, there) (taken (rw there at m) (rw there at unmarked)), moved ∙ ap next (sym there))
+    pub turned_take : {ms₂ : List Bool} → ms₁ ≡ ms' → ms₂ ≡ set ms₁ place false
+        → Member among place → get_or ms₁ place false ≡ false → Sweeps among h ms place ms₂
+    turned_take kept cleared m unmarked = rw (cleared, kept, there) (taken (rw there at m) (rw (kept, there) at unmarked))
 
 -- after two circles there is no member
 pub turned_all : {among h : ℕ} {ms : List Bool} {step h' : ℕ} {ms' : List Bool} → step ≡ 32 → h < 16 → Turned among h ms step h' ms' → Empty among × (h' ≡ h) × (ms' ≡ ms)

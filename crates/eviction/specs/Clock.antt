@@ -1,14 +1,18 @@
 -- The clock's rule: what the hand and the marks are after a notice, and how the hand comes to a choice.
 use Rattle.std.specs.Prelude.{◌≡◌, ℕ, ◌+◌, ◌-◌, ◌%◌, ◌<◌, ◌≤◌, Bool, true, false, ◌⊎◌, List, Some, None, Option, IfSome, slice_index_or, slice_set}
+use Rattle.eviction.specs.declared.clock.Clock.{Clock}
 use Rattle.eviction.specs.declared.notice.Notice.{Notice}
 use Rattle.eviction.specs.declared.notice.Notice.TheVariants.{Used, Emptied}
 use Rattle.eviction.specs.Places.{Member, Empty}
 use Rattle.eviction.specs.Policy.{place_of}
 
--- What a clock keeps: the place that its hand looks at next, and of each place whether it has a mark.
+-- What a clock shows: the place that its hand looks at next, and of each place whether it has a mark.
 pub record Face : Type 0 where
   pub hand : ℕ
   pub marks : List Bool
+
+abbrev pub face_of : Clock → Face
+face_of clock = record { hand = clock.hand; marks = clock.marks }
 
 -- the place after k; after 15 comes 0
 abbrev pub next : ℕ → ℕ

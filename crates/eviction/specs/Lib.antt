@@ -3,4 +3,3 @@ pub mod Policy
 pub mod Clock
 pub mod Order
 pub mod OldestUse
-pub mod Either

@@ -1,15 +1,13 @@
 // The clock, or second chance: a hand goes round the sixteen places, and a place that was used has a mark, which makes the
-// hand pass it once. The hand and the marks are all that it keeps, and each call says what they are then: a choice is the
-// member at which the hand stops, and who that is follows from the hand and the marks before.
+// hand pass it once. The hand and the marks, its face, are all that it keeps, and each call says what they are then: a choice
+// is the member at which the hand stops, and who that is follows from the face before.
 
 ghost use Rattle.std.specs.Prelude.{◌≡◌, ◌<◌, ◌≤◌, false, length, replicate, slice_index_or, slice_set};
-ghost use Rattle.eviction.specs.Clock.{next, Chosen, GivesSecondChance, Told};
 ghost use Rattle.eviction.specs.Policy.{Chooses};
 
 use crate::notice::Notice;
-use crate::places::{PLACES, ROOM, contains};
+use crate::places::{PLACES, PLACES_LEN, contains};
 use crate::policy::Policy;
-use std::marker::Model;
 use std::mem::replace;
 
 #[derive(Drop)]
@@ -17,30 +15,43 @@ pub struct Clock {
     // the place that is looked at next
     hand: u8,
     // for each place, whether it was used since it was last emptied and since the hand last cleared its mark
-    marks: [bool; ROOM],
-}
-
-impl Model for Clock {
-    ghost use Rattle.std.specs.Prelude.{◌≡◌, ◌<◌, length};
-    ghost use Rattle.eviction.specs.Clock.{Face};
-
-    ghost Value = { Face };
-
-    ghost view = { λ clock. record { hand = clock.hand; marks = clock.marks } };
-
-    ghost invariant = { λ clock. (clock.hand < 16) × (length clock.marks ≡ 16) };
+    marks: [bool; PLACES_LEN],
+    ghost round: { hand < 16 },
+    ghost wide: { length marks ≡ 16 },
 }
 
 impl Clock {
+    ghost use Rattle.eviction.specs.Clock.{face_of, next, Chosen, GivesSecondChance};
+
     // The hand is at place 0, and no place has a mark.
     pub fn new() -> Clock
-        ensures hand { result.hand ≡ 0 }
-        ensures marks { result.marks ≡ replicate 16 false }
+        ensures { face_of result ≡ record { hand = 0; marks = replicate 16 false } }
     {
         Clock {
             hand: 0,
-            marks: [false; ROOM],
+            marks: [false; PLACES_LEN],
         }
+    }
+
+    // Moves the hand one place further, and answers the place that it leaves.
+    fn advance(&mut self) -> u8
+        ensures place { result ≡ self.old.hand }
+        ensures hand { self.new.hand ≡ next self.old.hand }
+        ensures marks { self.new.marks ≡ self.old.marks }
+    {
+        let place = self.hand;
+        self.hand = (place + 1) % PLACES;
+        place
+    }
+
+    // Clears the mark of a place, and answers whether it was set.
+    fn unmark(&mut self, place: u8) -> bool
+        requires { place < 16 }
+        ensures was { result ≡ slice_index_or self.old.marks place false }
+        ensures hand { self.new.hand ≡ self.old.hand }
+        ensures marks { self.new.marks ≡ slice_set self.old.marks place false }
+    {
+        replace(&mut self.marks[usize::from(place)], false)
     }
 
     // Sets or clears the mark of a place; a number from 16 on names none.
@@ -57,16 +68,15 @@ impl Clock {
     // Goes round until the hand takes a member.
     fn sweep(&mut self, among: u16) -> Option<u8>
         ensures member { Chooses among result }
-        ensures after { Chosen self.old among result self.new }
-        ensures round { self.old.hand < 16 }
-        ensures wide { length self.old.marks ≡ 16 }
-        ensures second_chance { GivesSecondChance self.old among result self.new }
+        ensures after { Chosen (face_of self.old) among result (face_of self.new) }
+        ensures second_chance { GivesSecondChance (face_of self.old) among result
+            (face_of self.new) }
     {
         // Two circles are enough, since the first leaves no member marked. Where there is no member, they bring the hand
-        // back to its place.
+        // back to its place. This is no `find_map`: each step moves the hand and clears marks, which a closure would hide.
         for _step in 0..2 * PLACES {
-            let place = advance(&mut self.hand);
-            if contains(among, place) && !unmark(&mut self.marks, place) {
+            let place = self.advance();
+            if contains(among, place) && !self.unmark(place) {
                 return Some(place);
             }
         }
@@ -74,30 +84,12 @@ impl Clock {
     }
 }
 
-// Moves a hand one place further, and answers the place that it leaves.
-fn advance(hand: &mut u8) -> u8
-    requires { hand.old < 16 }
-    ensures place { result ≡ hand.old }
-    ensures hand { hand.new ≡ next hand.old }
-{
-    let place = *hand;
-    *hand = (place + 1) % PLACES;
-    place
-}
-
-// Clears the mark of a place, and answers whether it was set.
-fn unmark(marks: &mut [bool], place: u8) -> bool
-    requires { place < length marks.old }
-    ensures was { result ≡ slice_index_or marks.old place false }
-    ensures marks { marks.new ≡ slice_set marks.old place false }
-{
-    replace(&mut marks[usize::from(place)], false)
-}
-
 impl Policy for Clock {
-    ghost told = { Told };
+    ghost use Rattle.eviction.specs.Clock.{face_of, Chosen, GivesSecondChance, Told};
 
-    ghost chosen = { Chosen };
+    ghost told = { λ p n q. Told (face_of p) n (face_of q) };
+
+    ghost chosen = { λ p among r q. Chosen (face_of p) among r (face_of q) };
 
     fn tell(&mut self, notice: Notice) {
         match notice {
@@ -108,13 +100,9 @@ impl Policy for Clock {
 
     fn choose(&mut self, among: u16) -> Option<u8>
         ensures member { Chooses among result }
-        ensures after { Chosen self.old among result self.new }
-
-        // Of every clock the hand is at a place, and there are sixteen marks.
-        ensures round { self.old.hand < 16 }
-        ensures wide { length self.old.marks ≡ 16 }
-
-        ensures second_chance { GivesSecondChance self.old among result self.new }
+        ensures after { Chosen (face_of self.old) among result (face_of self.new) }
+        ensures second_chance { GivesSecondChance (face_of self.old) among result
+            (face_of self.new) }
     {
         self.sweep(among)
     }

@@ -1,16 +1,18 @@
 // One of two policies, so that caches with different policies can stand in one list.
 // What it is told goes to the policy that it holds, and that policy's choice is its choice.
 
-ghost use Rattle.eviction.specs.Either.{Held};
+ghost use Rattle.either.specs.Either.{SameSide};
 
 use crate::notice::Notice;
 use crate::policy::Policy;
 use either::Either;
 
 impl<A: Policy, B: Policy> Policy for Either<A, B> {
-    ghost told = { λ p n q. Held (λ a a'. A.Policy.told a n a') (λ b b'. B.Policy.told b n b') p q };
+    ghost told = { λ p n q.
+        SameSide (λ a a'. A.told a n a') (λ b b'. B.told b n b') p q };
 
-    ghost chosen = { λ p among r q. Held (λ a a'. A.Policy.chosen a among r a') (λ b b'. B.Policy.chosen b among r b') p q };
+    ghost chosen = { λ p among r q.
+        SameSide (λ a a'. A.chosen a among r a') (λ b b'. B.chosen b among r b') p q };
 
     fn tell(&mut self, notice: Notice) {
         match self {

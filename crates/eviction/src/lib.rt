@@ -6,7 +6,6 @@ mod clock;
 mod either_policy;
 mod notice;
 mod oldest_use;
-mod order;
 mod places;
 mod policy;
 

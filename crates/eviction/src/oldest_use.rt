@@ -3,40 +3,29 @@
 // contracts speak of that order: each call says what it is then, and a choice was used longest ago of all members, whatever
 // the policy was told since it was new.
 
-ghost use Rattle.std.specs.Prelude.{◌≡◌, ◌<◌, ◌≤◌, [], ◌∷◌, ◌++◌, Contains};
+ghost use Rattle.std.specs.Prelude.{◌≡◌, ◌<◌, ◌≤◌, ◌↔◌, [], ◌∷◌, ◌++◌, Contains, IsTrue};
 ghost use Rattle.eviction.specs.declared.notice.Notice.TheVariants.{Used};
-ghost use Rattle.eviction.specs.OldestUse.{order_after, Chosen, TakesLongestAgo, Told};
-ghost use Rattle.eviction.specs.Order.{without, FirstToGo, IsOrder};
+ghost use Rattle.eviction.specs.Order.{without, FirstIn, FirstToGo, Fresh, IsOrder, Lowest};
 ghost use Rattle.eviction.specs.Policy.{Chooses};
 
 use crate::notice::Notice;
-use crate::order::first_to_go;
-use crate::places::{PLACES, ROOM};
+use crate::places::{PLACES, PLACES_LEN, contains};
 use crate::policy::Policy;
 use arrayvec::ArrayVec;
-use std::marker::Model;
 
 #[derive(Drop)]
 pub struct OldestUse {
     // the places whose latest notice was a use, by that use, the oldest first
-    order: ArrayVec<u8, ROOM>,
-}
-
-impl Model for OldestUse {
-    ghost use Rattle.std.specs.Prelude.{ℕ, List};
-    ghost use Rattle.eviction.specs.Order.{IsOrder};
-
-    ghost Value = { List ℕ };
-
-    ghost view = { λ policy. policy.order.items };
-
-    ghost invariant = { λ policy. IsOrder policy.order.items };
+    order: ArrayVec<u8, PLACES_LEN>,
+    ghost sound: { IsOrder order.items },
 }
 
 impl OldestUse {
+    ghost use Rattle.eviction.specs.OldestUse.{order_after, order_of, TakesLongestAgo};
+
     // No place was used yet.
     pub fn new() -> OldestUse
-        ensures { result ≡ [] }
+        ensures { order_of result ≡ [] }
     {
         OldestUse {
             order: ArrayVec::new(),
@@ -45,9 +34,9 @@ impl OldestUse {
 
     // Takes a place out of the order, if it is in it.
     fn forget(&mut self, place: u8)
-        ensures order { self.new ≡ without place self.old }
-        ensures absent { Contains self.new place → ⊥ }
-        ensures ignored { 16 ≤ place → self.new ≡ self.old }
+        ensures order { order_of self.new ≡ without place (order_of self.old) }
+        ensures absent { Contains (order_of self.new) place → ⊥ }
+        ensures ignored { 16 ≤ place → order_of self.new ≡ order_of self.old }
     {
         self.order.retain(|other| *other != place);
     }
@@ -55,16 +44,16 @@ impl OldestUse {
     // Puts a place that is not in the order at its end.
     fn append(&mut self, place: u8)
         requires known { place < 16 }
-        requires absent { Contains self.old place → ⊥ }
-        ensures { self.new ≡ self.old ++ place ∷ [] }
+        requires absent { Contains (order_of self.old) place → ⊥ }
+        ensures { order_of self.new ≡ order_of self.old ++ place ∷ [] }
     {
         self.order.push(place);
     }
 
     // Moves a place to the end of the order; a number from 16 on names none.
     fn renew(&mut self, place: u8)
-        ensures order { self.new ≡ order_after (Used place) self.old }
-        ensures ignored { 16 ≤ place → self.new ≡ self.old }
+        ensures order { order_of self.new ≡ order_after (Used place) (order_of self.old) }
+        ensures ignored { 16 ≤ place → order_of self.new ≡ order_of self.old }
     {
         if place < PLACES {
             self.forget(place);
@@ -72,19 +61,44 @@ impl OldestUse {
         }
     }
 
-    // The member that was used longest ago.
+    // Whether a place is a member of a set and not in the order.
+    fn is_fresh(&self, among: u16, place: u8) -> bool
+        ensures { IsTrue result ↔ Fresh (order_of self.now) among place }
+    {
+        contains(among, place) && !self.order.contains(&place)
+    }
+
+    // The lowest member of a set that is not in the order.
+    fn lowest_fresh(&self, among: u16) -> Option<u8>
+        ensures { Lowest (Fresh (order_of self.now) among) result }
+    {
+        (0..PLACES).find(|place| self.is_fresh(among, *place))
+    }
+
+    // The member of a set that stands first in the order.
+    fn first_in(&self, among: u16) -> Option<u8>
+        ensures { FirstIn (order_of self.now) among result }
+    {
+        self.order
+            .iter()
+            .copied()
+            .find(|place| contains(among, *place))
+    }
+
+    // The member that was used longest ago: the lowest that is not in the order, else the first in it.
     #[tactic(auto, using(crate::proofs::LastUses::takes_longest_ago))]
     fn oldest(&self, among: u16) -> Option<u8>
         ensures member { Chooses among result }
-        ensures first { FirstToGo self.now among result }
-        ensures order { IsOrder self.now }
+        ensures first { FirstToGo (order_of self.now) among result }
         ensures longest_ago { TakesLongestAgo self.now among result }
     {
-        first_to_go(&self.order, among)
+        self.lowest_fresh(among).or_else(|| self.first_in(among))
     }
 }
 
 impl Policy for OldestUse {
+    ghost use Rattle.eviction.specs.OldestUse.{Chosen, TakesLongestAgo, Told};
+
     ghost told = { Told };
 
     ghost chosen = { Chosen };
@@ -99,10 +113,6 @@ impl Policy for OldestUse {
     fn choose(&mut self, among: u16) -> Option<u8>
         ensures member { Chooses among result }
         ensures after { Chosen self.old among result self.new }
-
-        // The order of every policy has places only, and none twice.
-        ensures order { IsOrder self.old }
-
         ensures longest_ago { TakesLongestAgo self.old among result }
     {
         self.oldest(among)

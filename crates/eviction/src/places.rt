@@ -7,8 +7,8 @@ ghost use Rattle.std.specs.Prelude.{◌↔◌, IsTrue};
 // how many places a cache has
 pub const PLACES: u8 = 16;
 
-// the same as the length of an array, by a cast, since a constant's value calls no `from`
-pub(crate) const ROOM: usize = PLACES as usize;
+// as many, as the length of an array: by a cast, since a constant's value calls no `from`
+pub(crate) const PLACES_LEN: usize = PLACES as usize;
 
 // Whether a place is a member of a set; a number from 16 on never is.
 pub fn contains(places: u16, place: u8) -> bool

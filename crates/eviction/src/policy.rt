@@ -24,6 +24,7 @@ pub trait Policy {
 
     // Picks a member of the set; no place if there is none.
     // The set is a plain number, since by the rules a policy gets a 16-bit set, in which bit k stands for place k.
+    // An impl that promises more has to repeat both clauses, as do the private calls under it; each names a whole rule.
     fn choose(&mut self, among: u16) -> Option<u8>
         ensures member { Chooses among result }
         ensures after { chosen self.old among result self.new };
@@ -31,7 +32,7 @@ pub trait Policy {
 
 // Tells a policy that the places of a set were emptied: once each, in ascending order.
 pub fn tell_emptied<P: Policy>(policy: &mut P, places: u16)
-    ensures { ToldEmptied P.Policy.told policy.old (Member places) policy.new }
+    ensures { ToldEmptied P.told policy.old (Member places) policy.new }
 {
     // No `filter` of the places, since a loop over one in a generic function gets no proof.
     for place in 0..PLACES {
@@ -41,7 +42,7 @@ pub fn tell_emptied<P: Policy>(policy: &mut P, places: u16)
 
 // Tells a policy that a place was emptied, if it is in the set.
 fn tell_if_member<P: Policy>(policy: &mut P, places: u16, place: u8)
-    ensures member { Member places place → P.Policy.told policy.old (Emptied place) policy.new }
+    ensures member { Member places place → P.told policy.old (Emptied place) policy.new }
     ensures other { (Member places place → ⊥) → policy.new ≡ policy.old }
 {
     if contains(places, place) {

@@ -11,11 +11,9 @@ use std::process::Abort;
 fn hears(rt: &impl Abort, places: u16, expected: &[u8]) {
     let mut policy = Recorder::new();
     tell_emptied(&mut policy, places);
-    let heard = policy.heard();
-    assert_eq!(rt; heard.len(), expected.len());
-    for (notice, place) in heard.iter().zip(expected.iter()) {
-        assert_eq!(rt; *notice, Some(Notice::Emptied(*place)));
-    }
+    let heard = policy.heard().iter().copied();
+    let expected = expected.iter().map(|place| Some(Notice::Emptied(*place)));
+    assert!(rt; heard.eq(expected));
 }
 
 #[test]

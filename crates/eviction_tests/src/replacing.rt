@@ -7,7 +7,7 @@ use eviction::{Notice, Policy};
 
 // Gives up one of the places that may go, and uses it for another page.
 pub(crate) fn replace<P: Policy>(policy: &mut P, among: u16) -> Option<u8>
-    ensures { Replaces P.Policy.told P.Policy.chosen policy.old among result policy.new }
+    ensures { Replaces P.told P.chosen policy.old among result policy.new }
 {
     let place = policy.choose(among)?;
     policy.tell(Notice::Emptied(place));

@@ -6,7 +6,8 @@ use std::process::Abort;
 // every place
 pub(crate) const ALL: u16 = 0xffff;
 
-// A step is data and no closure, so that a table of runs is a constant that reads like the rules.
+// A step is data and no closure, so that a table of runs is a constant that reads like the rules. `Use` and `Empty` stand
+// beside `Notice`, since a row tells of many places at once: as a list of notices it would not read like them.
 #[derive(Clone, Copy)]
 pub(crate) enum Step {
     // these places are used, one after the other
