@@ -73,7 +73,7 @@ impl Clock {
             (face_of self.new) }
     {
         // Two circles are enough, since the first leaves no member marked. Where there is no member, they bring the hand
-        // back to its place. This is no `find_map`: each step moves the hand and clears marks, which a closure would hide.
+        // back to its place. As a `find_map` it was tried: its closure hides from the proof what each step changes.
         for _step in 0..2 * PLACES {
             let place = self.advance();
             if contains(among, place) && !self.unmark(place) {
