@@ -9,7 +9,8 @@ use Rattle.std.proofs.lemmas.List.Kept.{AllPairs-filter}
 use Rattle.std.proofs.lemmas.List.Quantifiers.{all_pairs_push}
 use Rattle.std.proofs.lemmas.Map.Made.{IsDistinct-from_AllPairs}
 use Rattle.std.proofs.lemmas.Map.Steps.{length-le_from_distinct_below}
-use Rattle.eviction.specs.Order.{IsOrder, without, Lowest}
+use Rattle.eviction.specs.Order.{IsOrder, without, Fresh, Lowest, MemberAt}
+use Rattle.eviction.specs.Places.{Member, Empty}
 
 -- a number that is not another
 abbrev pub Other : ℕ → ℕ → Type 0
@@ -76,6 +77,11 @@ length-le_from_IsOrder xs order = length-le_from_distinct_below xs 16 (IsDistinc
 -- an order that lacks a place has room for it
 pub room : (k : ℕ) (xs : List ℕ) → k < 16 → (Contains xs k → ⊥) → IsOrder xs → length xs < 16
 room k xs lt absent order = omega (arith, length_push xs k, length-le_from_IsOrder (xs ++ k ∷ []) (IsOrder-push k xs lt absent order))
+
+-- where no member is outside the order and none is in it, there is none
+pub no_member : (order : List ℕ) (among : ℕ) → Lowest (Fresh order among) None → Lowest (MemberAt order among) None → Empty among
+no_member order among outside inside k m =
+    outside k (m, λ h. inside h.0 (h.1, subst (Member among) (sym (get_or_default order h.0 0 k h.1 ∙ h.2)) m))
 
 -- what `find` over the places answers
 pub lowest_found : (P : ℕ → Type 0) → ((k : ℕ) → P k → k < 16) → (r : Option ℕ)

@@ -1,9 +1,14 @@
--- What a sweep of the clock's hand comes to: the member that second chance names.
+-- What a sweep of the clock's hand comes to: a member, and the one that second chance names.
 use Rattle.std.proofs.Common.{◌≡◌, ℕ, ◌+◌, ◌<◌, ◌≤◌, Bool, true, false, List, length, get_or, set, sym, refl, ◌∙◌, subst, inl, inr, ⊎_elim, arith, length-set}
 use Rattle.std.proofs.lemmas.List.{get_or-set_same, get_or-set_other}
 use Rattle.std.proofs.lemmas.Bool.{cases_eq, both_ways}
 use Rattle.eviction.specs.Clock.{next, way, Sweeps, takes, clears, passes, Before, First, Cleared, Unmarked, SecondChance}
 use Rattle.eviction.specs.Places.{Member}
+
+pub sweeps_member : {among hand : ℕ} {marks : List Bool} {k : ℕ} {marks' : List Bool} → Sweeps among hand marks k marks' → Member among k
+sweeps_member (takes m unmarked) = m
+sweeps_member (clears hand m marked s) = sweeps_member s
+sweeps_member (passes hand out s) = sweeps_member s
 
 -- the way to another place is one longer than from the next place
 one_more : (hand k : ℕ) → hand < 16 → k < 16 → (k ≡ hand → ⊥) → way hand k ≡ 1 + way (next hand) k

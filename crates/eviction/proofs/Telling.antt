@@ -46,6 +46,9 @@ member_or_not places k =
 
 -- A loop over the places from 0 on, which tells of those of which P holds.
 module _ {T : Type 0} (told : T → Notice → T → Type 0) (P : ℕ → Type 0) (p : T) where
+  pub emptied_none : ToldEmptied told p (Below P 0) p
+  emptied_none = ([], record { rising = λ k l. absurd (omega arith); each = λ i d l. absurd (omega arith); whole = λ k b. absurd (omega (arith, b.1)) }, refl)
+
   emptied_more : (n : ℕ) (m q : T) → P n → told m (Emptied n) q → ToldEmptied told p (Below P n) m → ToldEmptied told p (Below P (n + 1)) q
   emptied_more n m q holds t (ks, turn, all) = (
     ks ++ n ∷ [],
@@ -65,3 +68,6 @@ module _ {T : Type 0} (told : T → Notice → T → Type 0) (P : ℕ → Type 0
       → ToldEmptied told p (Below P n) m → ToldEmptied told p (Below P (n + 1)) q
   emptied_step n m q either tells stays t =
       ⊎_elim (λ holds. emptied_more n m q holds (tells holds) t) (λ out. emptied_skip n q out (subst (ToldEmptied told p (Below P n)) (sym (stays out)) t)) either
+
+  pub emptied_all : (n : ℕ) (q : T) → ((k : ℕ) → P k → k < n) → ToldEmptied told p (Below P n) q → ToldEmptied told p P q
+  emptied_all n q below (ks, turn, all) = (ks, InTurn-like (Below P n) P ks (λ k b. b.0) (λ k b. (b, below k b)) turn, all)

@@ -1,5 +1,5 @@
 -- The clock's hand on its way: what is known after so many places, and that two circles are enough.
-use Rattle.std.proofs.Common.{◌≡◌, ℕ, ◌+◌, ◌%◌, ◌<◌, Bool, true, false, List, length, get_or, set, sym, ap, ◌∙◌, subst, ⊎_elim, arith}
+use Rattle.std.proofs.Common.{◌≡◌, ℕ, ◌+◌, ◌%◌, ◌<◌, Bool, true, false, List, length, get_or, set, sym, refl, ap, ◌∙◌, subst, ⊎_elim, arith}
 use Rattle.std.proofs.lemmas.List.{get_or-set_same, get_or-set_other, set-get_or}
 use Rattle.std.proofs.lemmas.Bool.{cases_eq, cases_lt, both_ways}
 use Rattle.eviction.specs.Clock.{next, way, Sweeps, takes, clears, passes}
@@ -13,6 +13,15 @@ pub record Turned (among h : ℕ) (ms : List Bool) (step h' : ℕ) (ms' : List B
   pub cleared : (d : ℕ) → d < step → Member among ((h + d) % 16) → get_or ms' ((h + d) % 16) false ≡ false
   pub none : (d : ℕ) → d + 16 < step → Member among ((h + d) % 16) → ⊥
   pub same : Empty among → ms' ≡ ms
+
+pub turned_none : (among h : ℕ) (ms : List Bool) → h < 16 → Turned among h ms 0 h ms
+turned_none among h ms lt = record {
+  at = omega arith;
+  rest = λ k marks s. s;
+  cleared = λ d l m. absurd (omega arith);
+  none = λ d l m. omega arith;
+  same = λ e. refl;
+}
 
 -- One place more: the hand leaves `place`, which is where it was, for h₂, and the marks are then ms₂.
 module _ {among h : ℕ} {ms : List Bool} {step h' : ℕ} {ms' : List Bool} (t : Turned among h ms step h' ms') where

@@ -72,6 +72,6 @@ SecondChance among hand marks k marks' =
     (First hand (Unmarked among marks) k × Cleared (Before among hand k) marks marks')
     ⊎ (((j : ℕ) → Unmarked among marks j → ⊥) × First hand (Member among) k × Cleared (Member among) marks marks')
 
--- the same of the clock before and after a choice
+-- the same of the faces before and after a choice
 abbrev pub GivesSecondChance : Face → ℕ → Option ℕ → Face → Type 0
 GivesSecondChance clock among r clock' = IfSome r (λ k. SecondChance among clock.hand clock.marks k clock'.marks)

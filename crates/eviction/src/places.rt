@@ -1,5 +1,6 @@
 // The places of a cache, and sets of them.
 // There are sixteen places, 0 to 15. A set of them is a number of 16 bits, whose bit of value 2^k says whether place k is in.
+// A place is a plain number, since by the rules notices may carry one from 16 on, and each policy sorts those out in one line.
 
 ghost use Rattle.eviction.specs.Places.{Member};
 ghost use Rattle.std.specs.Prelude.{◌↔◌, IsTrue};

@@ -54,8 +54,8 @@ impl<'a> FlatStore<'a> {
     }
 }
 
-// `read` and `write` begin as in the log store, by the line that turns bytes into a page's array. It is no body of the trait's:
-// each store's contract says more than the trait's, which a body there could not.
+// `read` and `write` begin as in the log store, by the line that turns bytes into a page's array. That line is in no body of the
+// trait's: each store's contract says more than the trait's, which a body there could not.
 // `SameMemory` stands in the contract of each call that writes, since it relates the store before and after, which no type does.
 impl<'a> PageStore for FlatStore<'a> {
     ghost pages = { pages_of };

@@ -27,8 +27,9 @@ pub struct LogStore<'a> {
     // for each page, the slot of its last record
     last: [Option<u16>; MOST_PAGES],
     ghost few: { filled ≤ slots_in (length memory.now) },
+    // said here too, since an array's length is known where it is made and not to who holds the store
     ghost wide: { length last ≡ 4096 },
-    // each of them holds the bytes of a record, of a page that the store has
+    // each filled slot holds the bytes of a record, of a page that the store has
     ghost exact: { Exact filled memory.now },
     ghost known: { Known (log_count (length memory.now)) filled memory.now },
     // the index is right

@@ -12,7 +12,8 @@ pub(crate) fn count_pieces<const WIDTH: usize>(memory: &[u8], most: u16) -> u16
     u16::try_from(memory.len() / WIDTH).map_or(most, |pieces| pieces.min(most))
 }
 
-// These are functions over a memory and a place in it, since the memory is a field of each store, which its lender must see.
+// The piece at a place. This and the next take a memory and a place in it, since the memory is a field of each store, which its
+// lender must see.
 pub(crate) fn piece<const WIDTH: usize>(memory: &[u8], at: u16) -> &[u8; WIDTH]
     requires wide { 0 < WIDTH }
     requires fits { WIDTH * at + WIDTH ≤ length memory.now }
@@ -22,6 +23,7 @@ pub(crate) fn piece<const WIDTH: usize>(memory: &[u8], at: u16) -> &[u8; WIDTH]
     &pieces[usize::from(at)]
 }
 
+// Writes a piece.
 pub(crate) fn put_piece<const WIDTH: usize>(memory: &mut [u8], at: u16, bytes: &[u8; WIDTH])
     requires { WIDTH * at + WIDTH ≤ length memory.old }
     ensures { memory.new ≡ overwritten memory.old (WIDTH * at) bytes.now }

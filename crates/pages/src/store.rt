@@ -16,6 +16,9 @@ pub(crate) type Page = [u8; PAGE_BYTES];
 // the most pages that a store has
 pub const MOST_PAGES: usize = 4096;
 
+// A page's number and its bytes are two parameters, since a caller names the one and lends the other. An impl that promises more
+// than a clause here repeats the clause, as do the private calls under it, which make it true.
+// The shape of the pages is promised by `count`, and is no law: a vendor would owe a proof of it, where the check finds the clause.
 pub trait PageStore {
     // the pages, each by its bytes
     ghost pages: { Self → List Page };
@@ -34,7 +37,7 @@ pub trait PageStore {
         ensures { Writes (pages self.old) page bytes.now (pages self.new) result };
 }
 
-// Whether a store with so many pages has a page.
+// Refuses a page that a store with so many pages does not have.
 pub(crate) fn check_page(count: u16, page: u16) -> Result<(), StoreFault>
     ensures { Answers (Unit {0}) (page < count) (Unit {0}) (Unit {0}) result }
 {

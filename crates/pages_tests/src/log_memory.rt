@@ -1,6 +1,7 @@
 // The log store's records as they stand in its memory, before and after it compacts itself.
 
-use crate::helpers::{answer, check_slots, page_of, write_all};
+use crate::helpers::{check_slots, page_of, write_all};
+use pages::StoreFault::NoSuchPage;
 use pages::{LogStore, PageStore};
 use std::process::Abort;
 use std::test::Fail;
@@ -10,7 +11,7 @@ fn check_pages(rt: &impl Abort, store: &LogStore<'_>, writes: &[(u16, u8)]) {
     for page in 0..store.count() {
         let last = writes.iter().rev().find(|(written, _)| *written == page);
         let mut buffer = page_of(255);
-        assert_eq!(rt; answer(store.read(page, &mut buffer)), Ok(()));
+        assert_eq!(rt; store.read(page, &mut buffer), Ok(()));
         assert_eq!(rt; buffer, page_of(last.map_or(0, |(_, byte)| *byte)));
     }
 }
@@ -108,7 +109,7 @@ fn page_numbers_stand_low_byte_first(rt: HostRuntime) -> Result<(), Fail> {
 fn largest_log(rt: HostRuntime) -> Result<(), Fail> {
     let mut memory = vec![in rt.alloc(); 9u8; 66 * 8192 + 100]?;
     let mut store = LogStore::new(&mut memory);
-    assert_eq!(rt; answer(store.write(4096, &page_of(1))), Err(3));
+    assert_eq!(rt; store.write(4096, &page_of(1)), Err(NoSuchPage));
     for _ in 0..4096 {
         write_all(&rt, &mut store, &[(4095, 1), (7, 2)]);
     }
