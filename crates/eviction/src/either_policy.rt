@@ -7,7 +7,7 @@ use crate::notice::Notice;
 use crate::policy::Policy;
 use either::Either;
 
-// Both arms read alike, but each calls another type's method, so they stay two; an edit breaks one of them.
+// Both arms read alike, but each calls another type's method, so they stay two; a must-fail edit breaks one arm alone.
 impl<A: Policy, B: Policy> Policy for Either<A, B> {
     ghost told = { λ p n q.
         SameSide (λ a a'. A.told a n a') (λ b b'. B.told b n b') p q };

@@ -34,7 +34,7 @@ pub trait Policy {
 pub fn tell_emptied<P: Policy>(policy: &mut P, places: u16)
     ensures { ToldEmptied P.told policy.old (Member places) policy.new }
 {
-    // No `filter` of the places, since a loop over one in a generic function gets no proof.
+    // A `filter` of the places was tried, but a loop over one in a generic function gets no proof.
     for place in 0..PLACES {
         tell_if_member(policy, places, place);
     }

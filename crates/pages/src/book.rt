@@ -20,7 +20,7 @@ pub fn export<S: PageStore>(store: &S, count: usize, buffer: &mut [u8]) -> Resul
     }
 }
 
-// It goes by ranges and not by `chunks_exact_mut`: once such a loan of parts is over, a proof knows the buffer's length and no
+// It goes by ranges; `chunks_exact_mut` was tried, but once such a loan of parts is over, a proof knows the buffer's length and no
 // longer its bytes.
 fn copy_pages<S: PageStore>(store: &S, count: u16, buffer: &mut [u8]) -> Result<(), StoreFault>
     requires fits { length buffer.old ≡ 64 * count }

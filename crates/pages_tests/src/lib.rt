@@ -1,6 +1,6 @@
 // Examples of the page stores that are executed, with answers worked out from the documented rules and never from a run.
-// Two modules are proved rather than run: `lending` has what a lender of memory knows from the stores' contracts alone, and
-// `one_page` a store that is none of ours.
+// `lending` is proved and not run: what a lender of memory knows from the stores' contracts alone. `one_page` is a store that is
+// none of ours.
 #![tactic(auto)]
 
 #[cfg(test)]

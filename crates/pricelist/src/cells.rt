@@ -1,6 +1,7 @@
 // Cells of 8 bytes that hold a word, filled up with spaces. A row of the list is two of them: an article and its price.
 // A row has no type of its own: a change looks its article up before its price becomes a cell, and prints both as they stand.
-// So a line is taken apart here and in `main`, each time by the library's two calls, with a message of its own.
+// So a line is taken apart here and in `main`, by two calls of the library and with a message of its own: a function of ours
+// would be those two calls again.
 
 ghost use Rattle.std.specs.Prelude.{◌≡◌, ◌-◌, ◌%◌, ◌<◌, ◌≤◌, ◌++◌, length, replicate, vec_len, IfOk, MatchResult};
 
