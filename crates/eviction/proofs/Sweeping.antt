@@ -5,6 +5,7 @@ use Rattle.std.proofs.lemmas.Bool.{cases_eq, both_ways}
 use Rattle.eviction.specs.Clock.{next, way, Sweeps, takes, clears, passes, Before, First, Cleared, Unmarked, SecondChance}
 use Rattle.eviction.specs.Places.{Member}
 
+-- whatever the way, it ends at a member
 pub sweeps_member : {among hand : ℕ} {marks : List Bool} {k : ℕ} {marks' : List Bool} → Sweeps among hand marks k marks' → Member among k
 sweeps_member (takes m unmarked) = m
 sweeps_member (clears hand m marked s) = sweeps_member s

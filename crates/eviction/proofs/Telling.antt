@@ -46,6 +46,7 @@ member_or_not places k =
 
 -- A loop over the places from 0 on, which tells of those of which P holds.
 module _ {T : Type 0} (told : T → Notice → T → Type 0) (P : ℕ → Type 0) (p : T) where
+  -- before the first place; the check makes this step, and the last, by itself
   pub emptied_none : ToldEmptied told p (Below P 0) p
   emptied_none = ([], record { rising = λ k l. absurd (omega arith); each = λ i d l. absurd (omega arith); whole = λ k b. absurd (omega (arith, b.1)) }, refl)
 
@@ -69,5 +70,6 @@ module _ {T : Type 0} (told : T → Notice → T → Type 0) (P : ℕ → Type 0
   emptied_step n m q either tells stays t =
       ⊎_elim (λ holds. emptied_more n m q holds (tells holds) t) (λ out. emptied_skip n q out (subst (ToldEmptied told p (Below P n)) (sym (stays out)) t)) either
 
+  -- past the last place of which P holds, that is all of them
   pub emptied_all : (n : ℕ) (q : T) → ((k : ℕ) → P k → k < n) → ToldEmptied told p (Below P n) q → ToldEmptied told p P q
   emptied_all n q below (ks, turn, all) = (ks, InTurn-like (Below P n) P ks (λ k b. b.0) (λ k b. (b, below k b)) turn, all)

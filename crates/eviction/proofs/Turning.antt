@@ -14,6 +14,7 @@ pub record Turned (among h : ℕ) (ms : List Bool) (step h' : ℕ) (ms' : List B
   pub none : (d : ℕ) → d + 16 < step → Member among ((h + d) % 16) → ⊥
   pub same : Empty among → ms' ≡ ms
 
+-- before the first place; the check makes this step by itself
 pub turned_none : (among h : ℕ) (ms : List Bool) → h < 16 → Turned among h ms 0 h ms
 turned_none among h ms lt = record {
   at = omega arith;
