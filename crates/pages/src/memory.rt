@@ -29,5 +29,7 @@ pub(crate) fn put_piece<const WIDTH: usize>(memory: &mut [u8], at: u16, bytes: &
     ensures { memory.new ≡ overwritten memory.old (WIDTH * at) bytes.now }
 {
     let from = WIDTH * usize::from(at);
-    memory[from..from + WIDTH].copy_from_slice(bytes);
+    // copied first, since between two references the compiled code looks whether they overlap, and may then go byte by byte
+    let bytes = *bytes;
+    memory[from..from + WIDTH].copy_from_slice(&bytes);
 }

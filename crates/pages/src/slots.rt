@@ -25,9 +25,10 @@ pub(crate) fn compact(memory: &mut [u8], last: &mut [Option<u16>; MOST_PAGES], f
 {
     let mut kept = 0;
     for slot in 0..filled {
-        let bytes = *piece(memory, slot);
-        let page = usize::from(Record::from(&bytes).page);
+        let filled_slot = piece(memory, slot);
+        let page = usize::from(Record::from(filled_slot).page);
         if last[page] == Some(slot) {
+            let bytes = *filled_slot;
             put_piece(memory, kept, &bytes);
             last[page] = Some(kept);
             kept += 1;

@@ -30,7 +30,7 @@ loop-slot-preserved c =
             (omega arith) c.requires.exact
             (λ k l. omega (arith, c.requires.known k l, c.loop-slot.invariant.wide))
             c.if-eq.kept c.if-eq.memory c.if-eq.last w.kept-is
-            (w.memory-is ∙ w.put_piece.ensures ∙ ap (overwritten c.loop-slot.memory (66 * c.loop-slot.kept)) c.piece.ensures) w.last-is;
+            (w.memory-is ∙ w.put_piece.ensures ∙ ap (overwritten c.loop-slot.memory (66 * c.loop-slot.kept)) c.piece-filled_slot.ensures) w.last-is;
         wide = c.if-eq.array_long;
       }
       | else-eq w ↦ record {
