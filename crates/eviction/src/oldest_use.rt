@@ -3,10 +3,11 @@
 // contracts speak of that order: each call says what it is then, and a choice was used longest ago of all members, whatever
 // the policy was told since it was new.
 
-ghost use Rattle.std.specs.Prelude.{◌≡◌, ◌<◌, ◌≤◌, ◌↔◌, [], ◌∷◌, ◌++◌, Contains, IsTrue};
+ghost use Rattle.std.specs.Prelude.{◌≡◌, ◌<◌, ◌≤◌, ◌↔◌, ◌==◌, [], ◌∷◌, ◌++◌, Contains, IsTrue};
 ghost use Rattle.eviction.specs.declared.notice.Notice.TheVariants.{Used};
 ghost use Rattle.eviction.specs.Order.{without, FirstIn, FirstToGo, Fresh, IsOrder, Lowest};
 ghost use Rattle.eviction.specs.Policy.{Chooses};
+ghost use Rattle.std.specs.List.{position};
 
 use crate::notice::Notice;
 use crate::places::{PLACES, PLACES_LEN, contains};
@@ -32,13 +33,23 @@ impl OldestUse {
         }
     }
 
-    // Takes a place out of the order, if it is in it.
+    // Where a place stands in the order.
+    fn index_of(&self, place: u8) -> Option<usize>
+        ensures { result ≡ position (λ other. other == place) (order_of self.now) }
+    {
+        self.order.iter().position(|other| *other == place)
+    }
+
+    // Takes a place out of the order, if it is in it. It stands there once, so it is looked for and removed: a `retain` was
+    // tried, and moved each place that stays.
     fn forget(&mut self, place: u8)
         ensures order { order_of self.new ≡ without place (order_of self.old) }
         ensures absent { Contains (order_of self.new) place → ⊥ }
         ensures ignored { 16 ≤ place → order_of self.new ≡ order_of self.old }
     {
-        self.order.retain(|other| *other != place);
+        if let Some(at) = self.index_of(place) {
+            self.order.remove(at);
+        }
     }
 
     // Puts a place that is not in the order at its end.
@@ -61,18 +72,18 @@ impl OldestUse {
         }
     }
 
-    // Whether a place is a member of a set and not in the order.
-    fn is_fresh(&self, among: u16, place: u8) -> bool
-        ensures { IsTrue result ↔ Fresh (order_of self.now) among place }
-    {
-        contains(among, place) && !self.order.contains(&place)
-    }
-
-    // The lowest member of a set that is not in the order.
+    // The lowest member of a set that is not in the order. It goes by a loop, whose order a must-fail edit turns round: where it
+    // went by a `find`, that edit was refused for its form, as was the same form with the right order.
     fn lowest_fresh(&self, among: u16) -> Option<u8>
         ensures { Lowest (Fresh (order_of self.now) among) result }
     {
-        (0..PLACES).find(|place| self.is_fresh(among, *place))
+        let order = self.order.as_slice();
+        for place in 0..PLACES {
+            if is_fresh(order, among, place) {
+                return Some(place);
+            }
+        }
+        None
     }
 
     // The member of a set that stands first in the order.
@@ -94,6 +105,13 @@ impl OldestUse {
     {
         self.lowest_fresh(among).or_else(|| self.first_in(among))
     }
+}
+
+// Whether a place is a member of a set and not in an order, which the caller takes out of the policy once for all places.
+fn is_fresh(order: &[u8], among: u16, place: u8) -> bool
+    ensures { IsTrue result ↔ Fresh order.now among place }
+{
+    contains(among, place) && !order.contains(&place)
 }
 
 impl Policy for OldestUse {
