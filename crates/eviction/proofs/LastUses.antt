@@ -174,7 +174,7 @@ module _ (age : ℕ → Option ℕ) (order : List ℕ) (t : Tracks age order) wh
       go None e = absurd (none j (n, not_there j e))
       go (Some b) e = behind (t.whole j n.0 (ap is_some e))
 
-longest_ago : (notices : List Notice) (policy : OldestUse) (among k : ℕ) → Since notices policy → FirstToGo (order_of policy) among (Some k) → LongestAgo notices among k
+pub longest_ago : (notices : List Notice) (policy : OldestUse) (among k : ℕ) → Since notices policy → FirstToGo (order_of policy) among (Some k) → LongestAgo notices among k
 longest_ago ns policy among k heard first =
     ⊎_elim
     (λ lowest. record {
@@ -199,7 +199,7 @@ next_used xs order n l =
     take_more xs n 0 l ∙ sym (cond-true (ltb k 16) (without k (take n xs) ++ k ∷ []) (take n xs) (lt-ltb k 16 (order.known n 0 l)) ∙ ap (λ ys. ys ++ k ∷ []) (without_absent k (take n xs) new))
 
 -- so every policy has heard some notices
-some_notices : (policy : OldestUse) → (notices : List Notice) × Since notices policy
+pub some_notices : (policy : OldestUse) → (notices : List Notice) × Since notices policy
 some_notices policy = up_to (length order) (omega arith) policy (sym (take_all (length order) order (omega arith)))
   where
     order : List ℕ

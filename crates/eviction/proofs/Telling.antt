@@ -50,14 +50,14 @@ module _ {T : Type 0} (told : T → Notice → T → Type 0) (P : ℕ → Type 0
   pub emptied_none : ToldEmptied told p (Below P 0) p
   emptied_none = ([], record { rising = λ k l. absurd (omega arith); each = λ i d l. absurd (omega arith); whole = λ k b. absurd (omega (arith, b.1)) }, refl)
 
-  emptied_more : (n : ℕ) (m q : T) → P n → told m (Emptied n) q → ToldEmptied told p (Below P n) m → ToldEmptied told p (Below P (n + 1)) q
+  pub emptied_more : (n : ℕ) (m q : T) → P n → told m (Emptied n) q → ToldEmptied told p (Below P n) m → ToldEmptied told p (Below P (n + 1)) q
   emptied_more n m q holds t (ks, turn, all) = (
     ks ++ n ∷ [],
     InTurn-push P n ks holds turn,
     rw map_push (told_push told p m q (map Emptied ks) (Emptied n) all t),
   )
 
-  emptied_skip : (n : ℕ) (q : T) → (P n → ⊥) → ToldEmptied told p (Below P n) q → ToldEmptied told p (Below P (n + 1)) q
+  pub emptied_skip : (n : ℕ) (q : T) → (P n → ⊥) → ToldEmptied told p (Below P n) q → ToldEmptied told p (Below P (n + 1)) q
   emptied_skip n q out (ks, turn, all) = (
     ks,
     InTurn-like (Below P n) (Below P (n + 1)) ks (λ k b. (b.0, omega (arith, b.1)))
